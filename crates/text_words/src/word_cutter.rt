@@ -1,0 +1,42 @@
+// Cuts a line into its words, one at a time, with nothing copied.
+ghost use Rattle.std.specs.Prelude.{◌≡◌, ◌<◌, ◌≤◌, ◌∷◌, [], length, not, MatchOption, IfSome};
+ghost use Rattle.std.specs.List.{prefix_len};
+ghost use Rattle.text_words.specs.Lines.{is_blank, words_of};
+
+/// The next word of what is left of a line, and what is left after it. `None` where only blanks (spaces and tabs) or
+/// a comment are left: a word that begins with `#`, and all after it.
+#[tactic(auto, using(crate::proofs::Cuts::word_steps))]
+pub fn next_word(line: &[u8]) -> Option<(&[u8], &[u8])>
+    ensures words { MatchOption result (words_of line.now ≡ [])
+        (λ cut. words_of line.now ≡ cut.0.now ∷ words_of cut.1.now) }
+    ensures shorter { IfSome result (λ cut. length cut.1.now < length line.now) }
+{
+    let (_, from_word) = line.split_at(blanks_before(line));
+    if from_word.is_empty() || from_word[0] == b'#' {
+        return None;
+    }
+    let (word, rest) = from_word.split_at(word_len(from_word));
+    Some((word, rest))
+}
+
+// How many blanks stand at the front.
+fn blanks_before(bytes: &[u8]) -> usize
+    ensures value { result ≡ prefix_len is_blank bytes.now }
+    ensures within { result ≤ length bytes.now }
+{
+    bytes.iter().take_while(|byte| is_blank(**byte)).count()
+}
+
+// How many bytes stand before the first blank.
+fn word_len(bytes: &[u8]) -> usize
+    ensures value { result ≡ prefix_len (λ byte. not (is_blank byte)) bytes.now }
+    ensures within { result ≤ length bytes.now }
+{
+    bytes.iter().take_while(|byte| !is_blank(**byte)).count()
+}
+
+fn is_blank(byte: u8) -> bool
+    ensures { result ≡ is_blank byte }
+{
+    byte == b' ' || byte == b'\t'
+}
