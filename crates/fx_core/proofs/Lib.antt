@@ -1,0 +1,5 @@
+pub mod Examples
+pub mod Integers
+pub mod RoundingLaws
+pub mod TypeLaws
+mod Words
