@@ -1,0 +1,3 @@
+pub mod PlaceLemmas
+pub mod WholeLemmas
+pub mod WriteLemmas
