@@ -1,0 +1,8 @@
+mod DraftLemmas
+mod NumberingLemmas
+mod RoutineLemmas
+pub mod ValidityFacts
+pub mod TextExamples
+pub mod HeldNumbers
+pub mod GoodLines
+pub mod ReadingLaw

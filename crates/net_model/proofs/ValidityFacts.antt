@@ -1,0 +1,278 @@
+-- What a valid network keeps, and where its parts stand.
+use Rattle.std.proofs.Common.{◌≡◌, ℕ, zero, suc, ◌+◌, ◌<◌, ◌≤◌, Bool, true, ◌&&◌, List, [], ◌∷◌, ◌++◌, map, length, get_or, ℤ, ◌≤ℤ◌, nat_lt, nat_le, int_le, refl, sym, ap, ◌∙◌, subst, arith, true≢false, ltb-true, leb-true, eqb-true, eq-eqb, ne_eqb, cond}
+use Rattle.std.specs.Prelude.{Some, None, if◌then◌else◌}
+use Rattle.std.specs.List.{list_any, list_all}
+use Rattle.std.proofs.lemmas.Bool.{and_parts}
+use Rattle.std.proofs.lemmas.Int.{ints}
+use Rattle.text_words.specs.Names.{is_name}
+use Rattle.fx_core.specs.declared.word_type.Ty.{Ty}
+use Rattle.fx_core.specs.declared.word_type.Ty.TheVariants.{U8, S8, U16, S16, U32, S32}
+use Rattle.net_model.specs.declared.first.Variant.{Variant}
+use Rattle.net_model.specs.declared.first.ArithOp.{ArithOp}
+use Rattle.net_model.specs.declared.first.ScaledOp.{ScaledOp}
+use Rattle.net_model.specs.declared.wires.WireNo.{WireNo}
+use Rattle.net_model.specs.declared.wires.Kind.{Kind}
+use Rattle.net_model.specs.declared.wires.Kind.TheVariants.{Num, Truth}
+use Rattle.net_model.specs.declared.wires.Block.{Block}
+use Rattle.net_model.specs.declared.wires.Block.TheVariants.{Arith, Scaled}
+use Rattle.net_model.specs.declared.wires.Item.{Item}
+use Rattle.net_model.specs.declared.wires.Item.TheVariants.{Input, Const, Block as OfBlock}
+use Rattle.net_model.specs.declared.wires.Wire.{Wire}
+use Rattle.net_model.specs.declared.wires.Role.{Role}
+use Rattle.net_model.specs.declared.wires.Role.TheVariants.{Value}
+use Rattle.net_model.specs.declared.wires.Part.{Part}
+use Rattle.net_model.specs.Wires.{NetData, wire_at, no_wire, kind_least, kind_greatest, point_of, argument_of, is_input, roles_of, parts_from, parts_of, no_part, place_in, has_role, part_number}
+use Rattle.net_model.specs.Validity.{same_ty, is_built_ty, is_good_kind, kind_holds, is_number_of, is_argument, is_good_block, is_good_item, is_good_wire, are_good_from, are_distinct, are_distinct_numbers, is_valid, IsValid}
+
+-- the conditions, one by one
+pub record Conditions (net : NetData) : Type 0 where
+  pub few : nat_le (length net.wires) 512 ≡ true
+  pub distinct : are_distinct (map (λ w. w.name) net.wires) ≡ true
+  pub good : are_good_from net.wires 0 net.wires ≡ true
+  pub outs_there : list_all (λ o. nat_lt o.0 (length net.wires)) net.outs ≡ true
+  pub outs_distinct : are_distinct_numbers (map (λ o. o.0) net.outs) ≡ true
+  pub has_input : list_any (λ w. is_input w.item) net.wires ≡ true
+  pub has_output : nat_lt 0 (length net.outs) ≡ true
+
+-- seven tests that are passed together are passed one by one
+and_parts_of_seven : (a b c d e f g : Bool) → (a && b && c && d && e && f && g) ≡ true → (a ≡ true) × (b ≡ true) × (c ≡ true) × (d ≡ true) × (e ≡ true) × (f ≡ true) × (g ≡ true)
+and_parts_of_seven a b c d e f g h =
+    let h1 = and_parts _ _ h in
+    let h2 = and_parts _ _ h1.0 in
+    let h3 = and_parts _ _ h2.0 in
+    let h4 = and_parts _ _ h3.0 in
+    let h5 = and_parts _ _ h4.0 in
+    let h6 = and_parts _ _ h5.0 in
+    (h6.0, h6.1, h5.1, h4.1, h3.1, h2.1, h1.1)
+
+pub conditions : (net : NetData) → IsValid net → Conditions net
+unfolding is_valid
+conditions net h =
+    let p = and_parts_of_seven _ _ _ _ _ _ _ h in
+    record { few = p.0; distinct = p.1; good = p.2; outs_there = p.3; outs_distinct = p.4; has_input = p.5; has_output = p.6 }
+
+-- a valid network has at most 512 wires
+pub length-valid : (net : NetData) → IsValid net → length net.wires ≤ 512
+length-valid net h = leb-true _ _ (conditions net h).few
+
+-- each wire is good in its place
+good_from : (wires rest : List Wire) (i k : ℕ) → are_good_from wires i rest ≡ true → k < length rest → is_good_wire wires (i + k) (get_or rest k no_wire) ≡ true
+good_from wires [] i k h lt = absurd (omega arith)
+good_from wires (w ∷ rest) i zero h lt = let e : i + 0 ≡ i = omega arith in rw e ((and_parts _ _ h).0)
+good_from wires (w ∷ rest) i (suc k) h lt =
+    let e : i + suc k ≡ (i + 1) + k = omega arith in
+    let shorter : k < length rest = omega arith in
+    rw e (good_from wires rest (i + 1) k ((and_parts _ _ h).1) shorter)
+
+pub good_wire-valid : (net : NetData) (i : ℕ) → IsValid net → i < length net.wires → is_good_wire net.wires i (wire_at net.wires i) ≡ true
+good_wire-valid net i h lt = let e : 0 + i ≡ i = omega arith in rw e at (good_from net.wires net.wires 0 i ((conditions net h).good) lt)
+
+-- what is known of a wire whose item is known
+pub good_item-valid : (net : NetData) (i : ℕ) (item : Item) → IsValid net → i < length net.wires → (wire_at net.wires i).item ≡ item → is_good_item net.wires i (wire_at net.wires i).kind item ≡ true
+good_item-valid net i item h lt e =
+    subst (λ (t : Item). is_good_item net.wires i (wire_at net.wires i).kind t ≡ true) e ((and_parts _ _ (good_wire-valid net i h lt)).1)
+
+-- binary points are at most 15
+point_of-good : (kind : Kind) → is_good_kind kind ≡ true → point_of kind ≤ 15
+point_of-good (Num ty point) h = leb-true _ _ h
+point_of-good Truth h = omega arith
+
+kind_of_good : (wires : List Wire) (i : ℕ) (w : Wire) → is_good_wire wires i w ≡ true → is_good_kind w.kind ≡ true
+kind_of_good wires i w h =
+    (and_parts (is_name w.name) (is_good_kind w.kind) ((and_parts (is_name w.name && is_good_kind w.kind) (is_good_item wires i w.kind w.item) h).0)).1
+
+pub point_of-valid : (net : NetData) (i : ℕ) → IsValid net → i < length net.wires → point_of (wire_at net.wires i).kind ≤ 15
+point_of-valid net i h lt =
+    point_of-good (wire_at net.wires i).kind (kind_of_good net.wires i (wire_at net.wires i) (good_wire-valid net i h lt))
+
+-- a test of two whole numbers
+le_from_test : (a b : ℤ) → int_le a b ≡ true → a ≤ℤ b
+le_from_test a b h = grind (arith, ints)
+
+-- a value lies in its kind
+pub record IsInKind (kind : Kind) (v : ℤ) : Type 0 where
+  pub low : kind_least kind ≤ℤ v
+  pub high : v ≤ℤ kind_greatest kind
+
+in_kind : (kind : Kind) (v : ℤ) → kind_holds kind v ≡ true → IsInKind kind v
+in_kind kind v h =
+    let p = and_parts _ _ h in
+    record { low = le_from_test _ _ p.0; high = le_from_test _ _ p.1 }
+
+-- a declared range isn't empty and lies in the kind
+pub record IsGoodRange (kind : Kind) (lo hi : ℤ) : Type 0 where
+  pub low : kind_least kind ≤ℤ lo
+  pub ordered : lo ≤ℤ hi
+  pub high : hi ≤ℤ kind_greatest kind
+
+pub input-valid : (net : NetData) (i : ℕ) (lo hi : ℤ) → IsValid net → i < length net.wires → (wire_at net.wires i).item ≡ Input lo hi → IsGoodRange (wire_at net.wires i).kind lo hi
+input-valid net i lo hi h lt e =
+    let p = and_parts _ _ (good_item-valid net i (Input lo hi) h lt e) in
+    let q = and_parts _ _ p.0 in
+    record { low = (in_kind _ _ q.0).low; ordered = le_from_test _ _ p.1; high = (in_kind _ _ q.1).high }
+
+-- a constant lies in its kind
+pub const-valid : (net : NetData) (i : ℕ) (value : ℤ) → IsValid net → i < length net.wires → (wire_at net.wires i).item ≡ Const value → IsInKind (wire_at net.wires i).kind value
+const-valid net i value h lt e = in_kind _ _ (good_item-valid net i (Const value) h lt e)
+
+-- types that are the same
+pub same_ty-true : (s t : Ty) → same_ty s t ≡ true → s ≡ t
+same_ty-true U8 U8 h = refl
+same_ty-true S8 S8 h = refl
+same_ty-true U16 U16 h = refl
+same_ty-true S16 S16 h = refl
+same_ty-true U32 U32 h = refl
+same_ty-true S32 S32 h = refl
+same_ty-true _ _ h = absurd (true≢false (sym h))
+
+-- a wire of a type is a number wire
+pub number_kind : (ty : Ty) (kind : Kind) → is_number_of ty kind ≡ true → (point : ℕ) × (kind ≡ Num ty point)
+number_kind ty (Num t point) h = (point, ap (λ u. Num u point) (sym (same_ty-true ty t h)))
+number_kind ty Truth h = absurd (true≢false (sym h))
+
+-- an argument is an earlier wire of its type
+pub record IsArgument (wires : List Wire) (i : ℕ) (ty : Ty) (a : WireNo) : Type 0 where
+  pub earlier : a.0 < i
+  pub number : is_number_of ty (wire_at wires a.0).kind ≡ true
+
+argument : (wires : List Wire) (i : ℕ) (ty : Ty) (a : WireNo) → is_argument wires i ty a ≡ true → IsArgument wires i ty a
+argument wires i ty a h =
+    let p = and_parts _ _ h in
+    record { earlier = ltb-true _ _ p.0; number = p.1 }
+
+-- a block of Mfx arithmetic: its types are built, its arguments are good, what it lacks repeats the first one
+pub record IsGoodArith (wires : List Wire) (i : ℕ) (kind : Kind) (v : Variant) (x y z : WireNo) (sh : ℕ) : Type 0 where
+  pub built_x : is_built_ty v.x ≡ true
+  pub one_type : v.x ≡ v.y
+  pub built_o : is_built_ty v.o ≡ true
+  pub first : IsArgument wires i v.x x
+  pub second : IsArgument wires i v.y y
+  pub third : z.0 ≡ x.0
+  pub shift : sh ≡ 0
+  pub output : is_number_of v.o kind ≡ true
+
+good_arith : (wires : List Wire) (i : ℕ) (kind : Kind) (op : ArithOp) (v : Variant) (x y z : WireNo) (sh : ℕ) → is_good_block wires i kind (Arith op v x y z sh) ≡ true → IsGoodArith wires i kind v x y z sh
+good_arith wires i kind op v x y z sh h =
+    let h1 = and_parts _ _ h in
+    let h2 = and_parts _ _ h1.0 in
+    let h3 = and_parts _ _ h2.0 in
+    let h4 = and_parts _ _ h3.0 in
+    let h5 = and_parts _ _ h4.0 in
+    let h6 = and_parts _ _ h5.0 in
+    let h7 = and_parts _ _ h6.0 in
+    record { built_x = h7.0; one_type = same_ty-true _ _ h7.1; built_o = h6.1; first = argument _ _ _ _ h5.1; second = argument _ _ _ _ h4.1; third = eqb-true _ _ h3.1; shift = eqb-true _ _ h2.1; output = h1.1 }
+
+pub arith-valid : (net : NetData) (i : ℕ) (op : ArithOp) (v : Variant) (x y z : WireNo) (sh : ℕ) → IsValid net → i < length net.wires → (wire_at net.wires i).item ≡ OfBlock (Arith op v x y z sh) → IsGoodArith net.wires i (wire_at net.wires i).kind v x y z sh
+arith-valid net i op v x y z sh h lt e = good_arith _ _ _ op _ _ _ _ _ (good_item-valid net i (OfBlock (Arith op v x y z sh)) h lt e)
+
+-- a block with binary points, likewise
+pub record IsGoodScaled (wires : List Wire) (i : ℕ) (kind : Kind) (v : Variant) (x y : WireNo) : Type 0 where
+  pub built_x : is_built_ty v.x ≡ true
+  pub one_type : v.x ≡ v.y
+  pub built_o : is_built_ty v.o ≡ true
+  pub first : IsArgument wires i v.x x
+  pub second : y.0 ≡ x.0
+  pub output : is_number_of v.o kind ≡ true
+
+good_scaled : (wires : List Wire) (i : ℕ) (kind : Kind) (op : ScaledOp) (v : Variant) (x y : WireNo) → is_good_block wires i kind (Scaled op v x y) ≡ true → IsGoodScaled wires i kind v x y
+good_scaled wires i kind op v x y h =
+    let h1 = and_parts _ _ h in
+    let h2 = and_parts _ _ h1.0 in
+    let h3 = and_parts _ _ h2.0 in
+    let h4 = and_parts _ _ h3.0 in
+    let h5 = and_parts _ _ h4.0 in
+    record { built_x = h5.0; one_type = same_ty-true _ _ h5.1; built_o = h4.1; first = argument _ _ _ _ h3.1; second = eqb-true _ _ h2.1; output = h1.1 }
+
+pub scaled-valid : (net : NetData) (i : ℕ) (op : ScaledOp) (v : Variant) (x y : WireNo) → IsValid net → i < length net.wires → (wire_at net.wires i).item ≡ OfBlock (Scaled op v x y) → IsGoodScaled net.wires i (wire_at net.wires i).kind v x y
+scaled-valid net i op v x y h lt e = good_scaled _ _ _ op _ _ _ (good_item-valid net i (OfBlock (Scaled op v x y)) h lt e)
+
+-- the argument of a block with binary points is a number wire of the first type
+pub scaled_argument-valid : (net : NetData) (i : ℕ) (op : ScaledOp) (v : Variant) (x y : WireNo) → IsValid net → i < length net.wires → (wire_at net.wires i).item ≡ OfBlock (Scaled op v x y) → (point : ℕ) × ((wire_at net.wires x.0).kind ≡ Num v.x point)
+scaled_argument-valid net i op v x y h lt e = number_kind _ _ ((scaled-valid net i op v x y h lt e).first.number)
+
+-- each argument of a block is an earlier wire
+below_along : (a b i : ℕ) → a ≡ b → b < i → a < i
+below_along a b i e h = omega arith
+
+argument_of-good : (wires : List Wire) (i : ℕ) (kind : Kind) (b : Block) → is_good_block wires i kind b ≡ true → (p : ℕ) → argument_of b p < i
+argument_of-good wires i kind (Arith op v x y z sh) h zero = (good_arith wires i kind op v x y z sh h).first.earlier
+argument_of-good wires i kind (Arith op v x y z sh) h (suc zero) = (good_arith wires i kind op v x y z sh h).second.earlier
+argument_of-good wires i kind (Arith op v x y z sh) h (suc (suc zero)) = below_along _ _ _ (good_arith wires i kind op v x y z sh h).third (good_arith wires i kind op v x y z sh h).first.earlier
+argument_of-good wires i kind (Arith op v x y z sh) h (suc (suc (suc p))) = (good_arith wires i kind op v x y z sh h).first.earlier
+argument_of-good wires i kind (Scaled op v x y) h zero = (good_scaled wires i kind op v x y h).first.earlier
+argument_of-good wires i kind (Scaled op v x y) h (suc zero) = below_along _ _ _ (good_scaled wires i kind op v x y h).second (good_scaled wires i kind op v x y h).first.earlier
+argument_of-good wires i kind (Scaled op v x y) h (suc (suc p)) = (good_scaled wires i kind op v x y h).first.earlier
+
+pub argument_of-valid : (net : NetData) (i : ℕ) (b : Block) → IsValid net → i < length net.wires → (wire_at net.wires i).item ≡ OfBlock b → (p : ℕ) → argument_of b p < i
+argument_of-valid net i b h lt e p = argument_of-good _ _ _ b (good_item-valid net i (OfBlock b) h lt e) p
+
+-- each output is a wire
+pub outs-valid : (net : NetData) → IsValid net → list_all (λ o. nat_lt o.0 (length net.wires)) net.outs ≡ true
+outs-valid net h = (conditions net h).outs_there
+
+-- a wire has one part, its value
+pub roles_of-is : (item : Item) → roles_of item ≡ Value ∷ []
+roles_of-is (Input lo hi) = refl
+roles_of-is (Const value) = refl
+roles_of-is (OfBlock b) = refl
+
+pub has_role-value : (item : Item) → has_role Value (roles_of item) ≡ true
+has_role-value item = ap (has_role Value) (roles_of-is item)
+
+-- the value of wire i
+abbrev pub value_part : ℕ → Part
+value_part i = record { wire = record { 0 = i }; role = Value }
+
+pub parts_from-cons : (i : ℕ) (w : Wire) (wires : List Wire) → parts_from i (w ∷ wires) ≡ value_part i ∷ parts_from (i + 1) wires
+parts_from-cons i w wires =
+    ap (λ roles. map (λ (r : Role). record { wire = record { 0 = i }; role = r }) roles ++ parts_from (i + 1) wires) (roles_of-is w.item)
+
+-- there are as many parts as wires
+length-parts_from : (i : ℕ) (wires : List Wire) → length (parts_from i wires) ≡ length wires
+length-parts_from i [] = refl
+length-parts_from i (w ∷ wires) = rw (parts_from-cons i w wires) (ap suc (length-parts_from (i + 1) wires))
+
+pub length-parts_of : (wires : List Wire) → length (parts_of wires) ≡ length wires
+length-parts_of wires = length-parts_from 0 wires
+
+-- part k is the value of wire k
+get_or-parts_from : (i k : ℕ) (wires : List Wire) → k < length wires → get_or (parts_from i wires) k no_part ≡ value_part (i + k)
+get_or-parts_from i k [] lt = absurd (omega arith)
+get_or-parts_from i zero (w ∷ wires) lt = rw (parts_from-cons i w wires) (ap value_part (omega arith))
+get_or-parts_from i (suc k) (w ∷ wires) lt =
+    let shorter : k < length wires = omega arith in
+    let e : (i + 1) + k ≡ i + suc k = omega arith in
+    rw (parts_from-cons i w wires) (get_or-parts_from (i + 1) k wires shorter ∙ ap value_part e)
+
+pub get_or-parts_of : (wires : List Wire) (k : ℕ) → k < length wires → get_or (parts_of wires) k no_part ≡ value_part k
+get_or-parts_of wires k lt = get_or-parts_from 0 k wires lt ∙ ap value_part (omega arith)
+
+-- the value of wire k is part k
+place_in-here : (i : ℕ) (parts : List Part) → place_in i Value (value_part i ∷ parts) ≡ 0
+place_in-here i parts = ap (λ b. cond (b && true) 0 (suc (place_in i Value parts))) (eq-eqb i i refl)
+
+place_in-later : (i j : ℕ) (parts : List Part) → (i ≡ j → ⊥) → place_in j Value (value_part i ∷ parts) ≡ suc (place_in j Value parts)
+place_in-later i j parts differ = ap (λ b. cond (b && true) 0 (suc (place_in j Value parts))) (ne_eqb i j differ)
+
+place_in-parts_from : (i k : ℕ) (wires : List Wire) → k < length wires → place_in (i + k) Value (parts_from i wires) ≡ k
+place_in-parts_from i k [] lt = absurd (omega arith)
+place_in-parts_from i zero (w ∷ wires) lt =
+    let e : i + 0 ≡ i = omega arith in
+    ap (λ j. place_in j Value (parts_from i (w ∷ wires))) e ∙ rw (parts_from-cons i w wires) (place_in-here i _)
+place_in-parts_from i (suc k) (w ∷ wires) lt =
+    let shorter : k < length wires = omega arith in
+    let e : i + suc k ≡ (i + 1) + k = omega arith in
+    let differ : i ≡ i + suc k → ⊥ = omega arith in
+    rw (parts_from-cons i w wires)
+    (place_in-later i (i + suc k) _ differ ∙ ap suc (ap (λ j. place_in j Value (parts_from (i + 1) wires)) e ∙ place_in-parts_from (i + 1) k wires shorter))
+
+pub place_in-parts_of : (wires : List Wire) (k : ℕ) → k < length wires → place_in k Value (parts_of wires) ≡ k
+place_in-parts_of wires k lt =
+    let e : 0 + k ≡ k = omega arith in
+    rw e at (place_in-parts_from 0 k wires lt)
+
+-- the number of the value of a wire is that of the wire
+pub part_number-is : (wires : List Wire) (k : ℕ) (role : Role) → k < length wires → part_number wires k role ≡ Some k
+unfolding part_number
+part_number-is wires k Value lt =
+    ap (λ b. if b then Some (place_in k Value (parts_of wires)) else None) (has_role-value (wire_at wires k).item) ∙ ap Some (place_in-parts_of wires k lt)

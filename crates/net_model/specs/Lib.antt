@@ -1,0 +1,11 @@
+pub mod Wires
+pub mod Validity
+pub mod Formulas
+pub mod Given
+pub mod Faults
+pub mod Drafts
+pub mod Refusals
+pub mod TypeWords
+pub mod RoutineWords
+pub mod Forms
+pub mod Text

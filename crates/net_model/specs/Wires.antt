@@ -1,0 +1,115 @@
+-- A network as data, and what is read off its wires without running it.
+use Rattle.std.specs.Prelude.{ℕ, zero, suc, ◌+◌, Bool, true, false, List, [], ◌∷◌, ◌++◌, map, get_or, take, ℤ, pos, count_by, ◌&&◌, ◌==◌, Option, Some, None, if◌then◌else◌}
+use Rattle.fx_core.specs.declared.word_type.Ty.TheVariants.{U8}
+use Rattle.fx_core.specs.Types.{least_of, greatest_of}
+use Rattle.net_model.specs.declared.wires.WireNo.{WireNo}
+use Rattle.net_model.specs.declared.wires.Kind.{Kind}
+use Rattle.net_model.specs.declared.wires.Kind.TheVariants.{Num, Truth}
+use Rattle.net_model.specs.declared.wires.Block.{Block}
+use Rattle.net_model.specs.declared.wires.Block.TheVariants.{Arith, Scaled}
+use Rattle.net_model.specs.declared.wires.Item.{Item}
+use Rattle.net_model.specs.declared.wires.Item.TheVariants.{Input, Const, Block as OfBlock}
+use Rattle.net_model.specs.declared.wires.Role.{Role}
+use Rattle.net_model.specs.declared.wires.Role.TheVariants.{Value}
+use Rattle.net_model.specs.declared.wires.Part.{Part}
+use Rattle.net_model.specs.declared.wires.Wire.{Wire}
+
+-- a network: its wires in order, and its output wires in the order of printing
+pub record NetData : Type 0 where
+  pub wires : List Wire
+  pub outs : List WireNo
+
+-- the wire that is read where there is none
+abbrev pub no_wire : Wire
+no_wire = record { name = []; kind = Num U8 0; item = Input (pos 0) (pos 0) }
+
+-- wire number i, from 0
+abbrev pub wire_at : List Wire → ℕ → Wire
+wire_at wires i = get_or wires i no_wire
+
+-- the least value of a kind
+abbrev pub kind_least : Kind → ℤ
+kind_least (Num ty point) = least_of ty
+kind_least Truth = pos 0
+
+-- the greatest value of a kind
+abbrev pub kind_greatest : Kind → ℤ
+kind_greatest (Num ty point) = greatest_of ty
+kind_greatest Truth = pos 1
+
+-- the binary point of a kind, 0 where it has none
+abbrev pub point_of : Kind → ℕ
+point_of (Num ty point) = point
+point_of Truth = 0
+
+-- argument number p of a block, from 0, as the number of a wire; behind the last one the first
+abbrev pub argument_of : Block → ℕ → ℕ
+argument_of (Arith op v x y z sh) zero = x.0
+argument_of (Arith op v x y z sh) (suc zero) = y.0
+argument_of (Arith op v x y z sh) (suc (suc zero)) = z.0
+argument_of (Arith op v x y z sh) (suc (suc (suc p))) = x.0
+argument_of (Scaled op v x y) zero = x.0
+argument_of (Scaled op v x y) (suc zero) = y.0
+argument_of (Scaled op v x y) (suc (suc p)) = x.0
+
+-- whether a wire is an input
+abbrev pub is_input : Item → Bool
+is_input (Input lo hi) = true
+is_input (Const value) = false
+is_input (OfBlock b) = false
+
+-- the place of input wire i among the inputs: how many of the wires before it are inputs
+abbrev pub input_place : List Wire → ℕ → ℕ
+input_place wires i = count_by (λ w. is_input w.item) (take i wires)
+
+-- one more number in front, where the wire is an input
+abbrev pub with_input : Item → ℕ → List WireNo → List WireNo
+with_input (Input lo hi) i rest = record { 0 = i } ∷ rest
+with_input (Const value) i rest = rest
+with_input (OfBlock b) i rest = rest
+
+-- the inputs among wires that are numbered from i
+abbrev pub inputs_from : ℕ → List Wire → List WireNo
+inputs_from i [] = []
+inputs_from i (w ∷ wires) = with_input w.item i (inputs_from (i + 1) wires)
+
+-- the inputs, in order
+abbrev pub inputs_of : List Wire → List WireNo
+inputs_of wires = inputs_from 0 wires
+
+-- the parts of a wire, in order: its states, then its value
+abbrev pub roles_of : Item → List Role
+roles_of (Input lo hi) = Value ∷ []
+roles_of (Const value) = Value ∷ []
+roles_of (OfBlock b) = Value ∷ []
+
+-- the parts of wires that are numbered from i
+abbrev pub parts_from : ℕ → List Wire → List Part
+parts_from i [] = []
+parts_from i (w ∷ wires) = map (λ r. record { wire = record { 0 = i }; role = r }) (roles_of w.item) ++ parts_from (i + 1) wires
+
+-- all parts, in the order of the wires
+abbrev pub parts_of : List Wire → List Part
+parts_of wires = parts_from 0 wires
+
+-- the part that is read where there is none
+abbrev pub no_part : Part
+no_part = record { wire = record { 0 = 0 }; role = Value }
+
+-- two roles are the same
+abbrev pub same_role : Role → Role → Bool
+same_role Value Value = true
+
+-- the number of a part of a wire in a list of parts: how many stand before it
+abbrev pub place_in : ℕ → Role → List Part → ℕ
+place_in wire role [] = 0
+place_in wire role (p ∷ parts) = if (p.wire.0 == wire) && same_role p.role role then 0 else suc (place_in wire role parts)
+
+-- a role is among those of a wire
+abbrev pub has_role : Role → List Role → Bool
+has_role role [] = false
+has_role role (r ∷ roles) = if same_role r role then true else has_role role roles
+
+-- the number of a part of a wire; none where the wire has no such part
+unfoldable pub part_number : List Wire → ℕ → Role → Option ℕ
+part_number wires wire role = if has_role role (roles_of (wire_at wires wire).item) then Some (place_in wire role (parts_of wires)) else None

@@ -1,0 +1,165 @@
+ghost use Rattle.std.specs.Prelude.{◌≡◌, ◌<◌, IfErr, IfOk, length, option_map};
+ghost use Rattle.net_model.specs.Wires.{inputs_of, part_number, parts_of};
+ghost use Rattle.net_model.specs.Validity.{IsValid};
+ghost use Rattle.net_model.specs.declared.network.NetRefusal.TheVariants.{At, OutOfMemory};
+
+use crate::draft_checks::{Fault, check_draft};
+use crate::numbering::{input_numbers, part_list, place_of};
+use crate::wires::{Part, PartNo, Role, Wire, WireNo};
+use std::alloc::{AllocError, Global};
+use std::marker::Model;
+
+/// A fault of a network or of its text, in the order in which one line is tested.
+#[derive(Clone, Copy, Debug, PartialEq, Eq)]
+pub enum NetKind {
+    /// The first line with words isn't `net 1`.
+    NoHead,
+    /// The first word is no keyword, or the line has another form than its keyword's.
+    BadLine,
+    /// The word in the place of the name isn't one.
+    BadName,
+    /// The name is defined above, or the output is named above.
+    Repeated,
+    /// The type word is none, or of a sort that the line doesn't take.
+    BadType,
+    /// No such routine.
+    UnknownRoutine,
+    /// The routine takes another number of arguments.
+    BadCount,
+    /// A name that is used is defined nowhere.
+    UnknownName,
+    /// A name that is used is defined here or later.
+    LaterWire,
+    /// A name that is used is of another kind or type than the routine takes, or the wire is of another
+    /// than it gives.
+    TypeDiffers,
+    /// A word in the place of a number isn't one.
+    BadNumber,
+    /// A number is outside its range or type, or the lower end of a range is above the upper one.
+    OutOfRange,
+    /// There are more than 512 wires.
+    TooMany,
+    /// There is no input or no output.
+    Missing,
+}
+
+/// Why a draft gives no network.
+#[derive(Clone, Copy, Debug, PartialEq, Eq)]
+pub enum NetRefusal {
+    /// The draft isn't valid: the wire that breaks a condition (the number of wires for a fault of no
+    /// wire), and the fault.
+    At { wire: u32, kind: NetKind },
+    OutOfMemory,
+}
+
+impl From<AllocError> for NetRefusal {
+    ghost from_gives = { λ _ refusal. refusal ≡ OutOfMemory };
+
+    fn from(_error: AllocError) -> NetRefusal {
+        NetRefusal::OutOfMemory
+    }
+}
+
+impl From<Fault> for NetRefusal {
+    ghost from_gives = { λ fault refusal. refusal ≡ At fault.wire fault.kind };
+
+    fn from(fault: Fault) -> NetRefusal {
+        let Fault { wire, kind } = fault;
+        NetRefusal::At { wire, kind }
+    }
+}
+
+/// What a network is made of, not tested yet.
+#[derive(Drop)]
+pub struct Draft {
+    pub wires: Vec<Wire>,
+    pub outs: Vec<WireNo>,
+}
+
+/// A valid network, seen as its wires and its outputs.
+#[derive(Drop)]
+pub struct Network {
+    wires: Vec<Wire>,
+    inputs: Vec<WireNo>,
+    outs: Vec<WireNo>,
+    parts: Vec<Part>,
+}
+
+impl Model for Network {
+    ghost use Rattle.std.specs.Prelude.{◌≡◌};
+    ghost use Rattle.net_model.specs.Wires.{NetData, inputs_of, parts_of};
+    ghost use Rattle.net_model.specs.Validity.{IsValid};
+
+    ghost Value = { NetData };
+
+    ghost view = { λ n. record { wires = n.wires.items; outs = n.outs.items } };
+
+    ghost invariant = { λ n. IsValid (record { wires = n.wires.items; outs = n.outs.items })
+        × (n.inputs.items ≡ inputs_of n.wires.items)
+        × (n.parts.items ≡ parts_of n.wires.items) };
+}
+
+impl Network {
+    ghost use Rattle.net_model.specs.Drafts.{data_of};
+    ghost use Rattle.net_model.specs.Refusals.{IsRefusedFor};
+
+    /// The network of a draft, if the draft is valid. A refusal names the first wire that breaks a
+    /// condition.
+    #[tactic(auto, using(crate::proofs::DraftLemmas::few_wires))]
+    pub fn new(alloc: Global, draft: Draft) -> Result<Network, NetRefusal>
+        ensures made { IfOk result (λ net. net ≡ data_of draft) }
+        ensures valid { IfOk result IsValid }
+        ensures refused { IfErr result (IsRefusedFor (data_of draft)) }
+    {
+        check_draft(&draft)?;
+        let inputs = input_numbers(alloc, &draft.wires)?;
+        let parts = part_list(alloc, &draft.wires)?;
+        Ok(Network {
+            wires: draft.wires,
+            inputs,
+            outs: draft.outs,
+            parts,
+        })
+    }
+
+    /// The wires, in the order of the network's text.
+    pub fn wires(&self) -> &[Wire]
+        ensures wires { result.now ≡ self.now.wires }
+        ensures valid { IsValid self.now }
+    {
+        self.wires.as_slice()
+    }
+
+    /// The wires that are inputs, in the order of the wires.
+    pub fn inputs(&self) -> &[WireNo]
+        ensures inputs { result.now ≡ inputs_of self.now.wires }
+        ensures valid { IsValid self.now }
+    {
+        self.inputs.as_slice()
+    }
+
+    /// The outputs, in the order of printing.
+    pub fn outs(&self) -> &[WireNo]
+        ensures outs { result.now ≡ self.now.outs }
+        ensures valid { IsValid self.now }
+    {
+        self.outs.as_slice()
+    }
+
+    /// The parts, in the order of the wires.
+    pub fn parts(&self) -> &[Part]
+        ensures parts { result.now ≡ parts_of self.now.wires }
+        ensures valid { IsValid self.now }
+    {
+        self.parts.as_slice()
+    }
+
+    /// The number of a part of a wire, and None where the wire has no such part.
+    #[tactic(auto, using(crate::proofs::DraftLemmas::few_parts))]
+    pub fn part_of(&self, w: WireNo, role: Role) -> Option<PartNo>
+        requires { w.0 < length self.now.wires }
+        ensures { result ≡ option_map (λ n. record { 0 = n }) (part_number self.now.wires w.0 role) }
+    {
+        place_of(self.parts(), w, role)
+    }
+}
