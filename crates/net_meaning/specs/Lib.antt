@@ -1,0 +1,5 @@
+pub mod Cells
+pub mod Blocks
+pub mod Runs
+pub mod Promises
+pub mod RunLaws
