@@ -1,0 +1,3 @@
+pub mod StepFacts
+pub mod RowFacts
+pub mod TestRows

@@ -1,0 +1,71 @@
+-- How the steps and the values grow, step by step, and what a block's arguments are.
+use Rattle.std.proofs.Common.{◌≡◌, ℕ, zero, suc, ◌+◌, ◌<◌, ◌≤◌, true, false, List, [], ◌∷◌, ◌++◌, length, set, take, ℤ, nat_lt, refl, sym, ap, ap₂, ◌∙◌, arith, add-one, ltb-true}
+use Rattle.std.specs.List.{list_all}
+use Rattle.std.proofs.lemmas.Bool.{and_parts}
+use Rattle.std.proofs.lemmas.List.{take_more_set, take_all}
+use Rattle.std.proofs.lemmas.List.Sums.{count_by_more_no, count_by_more_yes}
+use Rattle.net_model.specs.declared.first.ScaledOp.{ScaledOp}
+use Rattle.net_model.specs.declared.first.Variant.{Variant}
+use Rattle.net_model.specs.declared.wires.WireNo.{WireNo}
+use Rattle.net_model.specs.declared.wires.Block.{Block}
+use Rattle.net_model.specs.declared.wires.Block.TheVariants.{Scaled}
+use Rattle.net_model.specs.declared.wires.Item.TheVariants.{Block as OfBlock}
+use Rattle.net_model.specs.declared.wires.Wire.{Wire}
+use Rattle.net_model.specs.Wires.{NetData, wire_at, no_wire, is_input, input_place}
+use Rattle.net_model.specs.Validity.{IsValid}
+use Rattle.net_model.proofs.ValidityFacts.{scaled-valid, length-valid, outs-valid}
+use Rattle.net_eval.specs.declared.resolving.Step.{Step}
+use Rattle.net_eval.specs.Steps.{item_step, steps_of, step_at, step_value, values_of}
+use Rattle.net_eval.specs.Picking.{AreBelow}
+
+-- the arguments of a conversion are wires
+pub scaled_there : (net : NetData) (i : ℕ) (b : Block) (op : ScaledOp) (v : Variant) (x y : WireNo) → IsValid net → i < length net.wires → (wire_at net.wires i).item ≡ OfBlock b → b ≡ Scaled op v x y → (x.0 < length net.wires) × (y.0 < length net.wires)
+scaled_there net i b op v x y valid lt e h =
+    let g = scaled-valid net i op v x y valid lt (e ∙ ap OfBlock h) in
+    (omega (arith, g.first.earlier), omega (arith, g.first.earlier, g.second))
+
+-- a valid network's wires have small numbers
+pub few_wires : (net : NetData) → IsValid net → length net.wires ≤ 512
+few_wires net valid = length-valid net valid
+
+-- no step yet, and one more step
+pub steps_start : (wires : List Wire) → [] ≡ steps_of wires 0
+unfolding steps_of
+steps_start wires = refl
+
+pub steps_push : (wires : List Wire) (i : ℕ) (steps : List Step) (step : Step) → step ≡ item_step wires i (wire_at wires i).item → steps ≡ steps_of wires i → steps ++ step ∷ [] ≡ steps_of wires (i + 1)
+unfolding steps_of
+steps_push wires i steps step h e = ap₂ (λ s t. s ++ t ∷ []) e h ∙ sym (ap (steps_of wires) (add-one i))
+
+-- one more wire's place
+pub place_next : (wires : List Wire) (i : ℕ) → i < length wires → is_input (wire_at wires i).item ≡ true → input_place wires (i + 1) ≡ input_place wires i + 1
+place_next wires i lt h = count_by_more_yes (λ w. is_input w.item) wires i no_wire lt h
+
+pub place_same : (wires : List Wire) (i : ℕ) → i < length wires → is_input (wire_at wires i).item ≡ false → input_place wires (i + 1) ≡ input_place wires i
+place_same wires i lt h = count_by_more_no (λ w. is_input w.item) wires i no_wire lt h
+
+-- no value yet, one more value, and all values
+pub values_start : (steps : List Step) (inputs : List ℤ) → [] ≡ values_of steps inputs 0
+unfolding values_of
+values_start steps inputs = refl
+
+pub values_push : (steps : List Step) (inputs values seen : List ℤ) (i : ℕ) (v r : ℤ) → i < length values → take i values ≡ values_of steps inputs i → v ≡ r → seen ≡ take i values → r ≡ step_value (step_at steps i) inputs seen → take (i + 1) (set values i v) ≡ values_of steps inputs (i + 1)
+unfolding values_of
+values_push steps inputs values seen i v r lt e same same_seen h =
+    take_more_set values i v lt
+    ∙ ap₂ (λ l x. l ++ x ∷ []) e (same ∙ h ∙ ap (step_value (step_at steps i) inputs) (same_seen ∙ e))
+    ∙ sym (ap (values_of steps inputs) (add-one i))
+
+pub values_done : (steps : List Step) (inputs values : List ℤ) (i : ℕ) → length values ≡ length steps → i ≡ length steps → take i values ≡ values_of steps inputs i → values ≡ values_of steps inputs (length steps)
+values_done steps inputs values i len at e = sym (take_all i values (omega (arith, len, at))) ∙ e ∙ ap (values_of steps inputs) at
+
+-- outputs that all pass a test are below
+pub below_all : (outs : List WireNo) (n : ℕ) → list_all (λ o. nat_lt o.0 n) outs ≡ true → AreBelow outs n
+below_all [] n h k lt = absurd (omega arith)
+below_all (o ∷ outs) n h zero lt = ltb-true _ _ ((and_parts _ _ h).0)
+below_all (o ∷ outs) n h (suc k) lt = below_all outs n ((and_parts _ _ h).1) k (omega arith)
+
+pub outs_below : (net : NetData) → IsValid net → AreBelow net.outs (length net.wires)
+outs_below net valid = below_all net.outs (length net.wires) (outs-valid net valid)
+
+pub ruleset resolve_steps = (steps_start, steps_push, place_next, place_same, few_wires)

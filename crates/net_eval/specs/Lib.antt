@@ -1,0 +1,4 @@
+pub mod After
+pub mod Steps
+pub mod Typing
+pub mod Picking

@@ -1,0 +1,66 @@
+-- The steps of an evaluator, one for each wire, and the values that they give for one row.
+use Rattle.std.specs.Prelude.{ℕ, zero, suc, ◌<◌, ◌≤◌, ℤ, pos, List, [], ◌∷◌, ◌++◌, length, get_or}
+use Rattle.fx_core.specs.declared.quotient.Mode.TheVariants.{Zero}
+use Rattle.fx_core.specs.Types.{Holds, saturated}
+use Rattle.fx_core.specs.Values.{rounded_fraction}
+use Rattle.net_model.specs.declared.first.ArithOp.TheVariants.{Add}
+use Rattle.net_model.specs.declared.first.ScaledOp.TheVariants.{Convert}
+use Rattle.net_model.specs.declared.wires.Kind.{Kind}
+use Rattle.net_model.specs.declared.wires.Block.{Block}
+use Rattle.net_model.specs.declared.wires.Block.TheVariants.{Arith, Scaled}
+use Rattle.net_model.specs.declared.wires.Item.{Item}
+use Rattle.net_model.specs.declared.wires.Item.TheVariants.{Input, Const, Block as OfBlock}
+use Rattle.net_model.specs.declared.wires.Wire.{Wire}
+use Rattle.net_model.specs.Wires.{wire_at, input_place}
+use Rattle.net_model.specs.Formulas.{arith_formula, scaled_formula}
+use Rattle.net_model.specs.Given.{one_given, two_given}
+use Rattle.net_meaning.specs.Blocks.{points_of}
+use Rattle.net_eval.specs.declared.resolving.Step.{Step}
+use Rattle.net_eval.specs.declared.resolving.Step.TheVariants.{Read, Fixed, Sum, Rescaled}
+
+-- the step of a block on a wire of a kind
+abbrev pub block_step : List Wire → Kind → Block → Step
+block_step wires kind (Arith Add v x y z sh) = Sum v x.0 y.0
+block_step wires kind (Scaled Convert v x y) = Rescaled v x.0 (points_of wires kind (Scaled Convert v x y))
+
+-- the step of wire i, by its item
+abbrev pub item_step : List Wire → ℕ → Item → Step
+item_step wires i (Input lo hi) = Read (input_place wires i)
+item_step wires i (Const value) = Fixed value
+item_step wires i (OfBlock b) = block_step wires (wire_at wires i).kind b
+
+-- the steps of the first n wires
+unfoldable pub steps_of : List Wire → ℕ → List Step
+steps_of wires zero = []
+steps_of wires (suc n) = steps_of wires n ++ item_step wires n (wire_at wires n).item ∷ []
+
+-- step number i, from 0
+abbrev pub step_at : List Step → ℕ → Step
+step_at steps i = get_or steps i (Read 0)
+
+-- value number i, from 0
+abbrev pub value_at : List ℤ → ℕ → ℤ
+value_at values i = get_or values i (pos 0)
+
+-- what a step gives, from the row's inputs and the values of the earlier wires
+abbrev pub step_value : Step → List ℤ → List ℤ → ℤ
+step_value (Read place) inputs values = value_at inputs place
+step_value (Fixed value) inputs values = value
+step_value (Sum v x y) inputs values = saturated v.o (rounded_fraction Zero (arith_formula Add (two_given (value_at values x) (value_at values y))))
+step_value (Rescaled v x points) inputs values = saturated v.o (rounded_fraction Zero (scaled_formula Convert points (one_given (value_at values x))))
+
+-- the values of the first n steps
+unfoldable pub values_of : List Step → List ℤ → ℕ → List ℤ
+values_of steps inputs zero = []
+values_of steps inputs (suc n) = values_of steps inputs n ++ step_value (step_at steps n) inputs (values_of steps inputs n) ∷ []
+
+-- a step's arguments are there, in the types of its routine
+abbrev pub IsReady : Step → List ℤ → List ℤ → Type 0
+IsReady (Read place) inputs values = place < length inputs
+IsReady (Fixed value) inputs values = Unit {0}
+IsReady (Sum v x y) inputs values = (x < length values) × (y < length values) × Holds v.x (value_at values x) × Holds v.y (value_at values y)
+IsReady (Rescaled v x points) inputs values = (x < length values) × Holds v.x (value_at values x) × (points.a ≤ 15) × (points.c ≤ 15)
+
+-- each step is ready when its turn comes
+abbrev pub AreReady : List Step → List ℤ → Type 0
+AreReady steps inputs = (i : ℕ) → i < length steps → IsReady (step_at steps i) inputs (values_of steps inputs i)

@@ -1,0 +1,71 @@
+ghost use Rattle.std.specs.Prelude.{◌≡◌, ℤ, List, [], ◌∷◌, IfOk, length};
+ghost use Rattle.net_model.specs.Wires.{inputs_of};
+ghost use Rattle.net_eval.specs.After.{IsAfter, outputs_of};
+ghost use Rattle.net_eval.specs.Typing.{AreTyped};
+
+use crate::filling::evaluate;
+use crate::resolving::{Step, resolve};
+use net_model::Network;
+use std::alloc::{AllocError, Global};
+use std::marker::Model;
+
+/// An evaluator of a network, seen as the network and what it keeps of the rows so far. The buffer of
+/// values is scratch, written anew at each row.
+#[derive(Drop)]
+pub struct Plan<'a> {
+    net: &'a Network,
+    steps: Vec<Step>,
+    values: Vec<i64>,
+}
+
+impl<'a> Model for Plan<'a> {
+    ghost use Rattle.std.specs.Prelude.{◌≡◌, [], length};
+    ghost use Rattle.net_model.specs.Validity.{IsValid};
+    ghost use Rattle.net_eval.specs.After.{PlanData};
+
+    ghost Value = { PlanData };
+
+    ghost use Rattle.net_eval.specs.Steps.{steps_of};
+
+    ghost view = { λ p. record { net = p.net.now; kept = [] } };
+
+    ghost invariant = { λ p. IsValid p.net.now
+        × (p.steps.items ≡ steps_of p.net.now.wires (length p.net.now.wires))
+        × (length p.values.items ≡ length p.net.now.wires) };
+}
+
+impl<'a> Plan<'a> {
+    /// The evaluator of a network before its first row; `AllocError` where memory runs out.
+    pub fn new(alloc: Global, net: &'a Network) -> Result<Plan<'a>, AllocError>
+        ensures net { IfOk result (λ p. p.net ≡ net.now) }
+        ensures start { IfOk result (λ p. IsAfter net.now [] p.kept) }
+    {
+        let steps = resolve(alloc, net)?;
+        let values = vec![in alloc; 0; net.wires().len()]?;
+        Ok(Plan { net, steps, values })
+    }
+
+    /// Evaluates one more row, with one number for each input in the order of the wires, raw counts of its
+    /// kind, and writes the value of each output in the order of printing.
+    pub fn step(&mut self, inputs: &[i64], out: &mut [i64])
+        requires one_each { length inputs.now ≡ length (inputs_of self.old.net.wires) }
+        requires typed { AreTyped self.old.net.wires inputs.now }
+        requires outs { length out.old ≡ length self.old.net.outs }
+        ensures net { self.new.net ≡ self.old.net }
+        ensures after { (rows : List (List ℤ)) → IsAfter self.old.net rows self.old.kept
+            → IsAfter self.old.net (inputs.now ∷ rows) self.new.kept }
+        ensures values { (rows : List (List ℤ)) → IsAfter self.old.net rows self.old.kept
+            → out.new ≡ outputs_of self.old.net (inputs.now ∷ rows) }
+    {
+        evaluate(&self.steps, self.net.outs(), inputs, &mut self.values, out);
+    }
+
+    /// Goes back to before the first row.
+    pub fn reset(&mut self)
+        ensures net { self.new.net ≡ self.old.net }
+        ensures start { IsAfter self.old.net [] self.new.kept }
+    {
+        // Nothing is kept between rows, so there is nothing to forget.
+        let _ = &self.net;
+    }
+}

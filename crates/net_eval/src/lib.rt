@@ -1,0 +1,10 @@
+// Evaluates a network row by row: a plan that is made once, and a step for each row that takes no memory.
+#![tactic(auto)]
+
+mod evaluator;
+mod filling;
+mod resolving;
+#[cfg(test)]
+mod tests;
+
+pub use evaluator::Plan;
