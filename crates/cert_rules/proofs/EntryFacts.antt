@@ -1,0 +1,99 @@
+-- Where the entry of a wire stands, and how small sound entries are.
+use Rattle.std.proofs.Common.{◌≡◌, ℕ, ◌<◌, ◌≤◌, ◌^◌, Bool, true, ◌&&◌, List, length, get_or, ℤ, pos, negsuc, ◌≤ℤ◌, int_le, int_lt, sym, ap, ◌∙◌, FitsSigned, to_z, of_z, w64}
+use Rattle.std.proofs.lemmas.Bool.{and_parts}
+use Rattle.std.proofs.lemmas.Int.{to_z-of_z}
+use Rattle.fx_fraction.proofs.WholeNumbers.{int_le-true, int_lt-true, int_le_trans}
+use Rattle.fx_core.specs.declared.word_type.Ty.{Ty}
+use Rattle.fx_core.specs.declared.word_type.Ty.TheVariants.{U8, S8, U16, S16, U32, S32}
+use Rattle.fx_core.specs.Types.{least_of, greatest_of}
+use Rattle.net_model.specs.declared.wires.Kind.{Kind}
+use Rattle.net_model.specs.declared.wires.Kind.TheVariants.{Num, Truth}
+use Rattle.net_model.specs.declared.wires.Role.{Role}
+use Rattle.net_model.specs.declared.wires.Role.TheVariants.{Value}
+use Rattle.net_model.specs.declared.wires.Wire.{Wire}
+use Rattle.net_model.specs.Wires.{NetData, wire_at, kind_least, kind_greatest, point_of, parts_of}
+use Rattle.net_model.specs.Validity.{IsValid}
+use Rattle.net_model.proofs.ValidityFacts.{get_or-parts_of, length-parts_of, place_in-parts_of, point_of-valid}
+use Rattle.cert_rules.specs.declared.bounds.Bounds.{Bounds}
+use Rattle.cert_rules.specs.Certificates.{no_bounds, entry_of}
+use Rattle.cert_rules.specs.Rules.{is_allowed, part_least, part_greatest}
+use Rattle.cert_rules.specs.Acceptance.{is_sound_at, part_at, entry_at}
+use Rattle.cert_rules.specs.Entries.{AreSound, IsSmall}
+
+-- ---- the entry of a wire's value has the wire's number
+
+pub entry_of-value : (wires : List Wire) (entries : List Bounds) (w : ℕ) → w < length wires → entry_of wires entries w Value ≡ entry_at entries w
+unfolding entry_of
+entry_of-value wires entries w h = ap (λ k. get_or entries k no_bounds) (place_in-parts_of wires w h)
+
+-- ---- sound entries are small
+
+least_of-low : (t : Ty) → negsuc 2147483647 ≤ℤ least_of t
+least_of-low U8 = record { le = tt }
+least_of-low S8 = record { le = tt }
+least_of-low U16 = record { le = tt }
+least_of-low S16 = record { le = tt }
+least_of-low U32 = record { le = tt }
+least_of-low S32 = record { le = tt }
+
+greatest_of-high : (t : Ty) → greatest_of t ≤ℤ pos 4294967295
+greatest_of-high U8 = record { le = tt }
+greatest_of-high S8 = record { le = tt }
+greatest_of-high U16 = record { le = tt }
+greatest_of-high S16 = record { le = tt }
+greatest_of-high U32 = record { le = tt }
+greatest_of-high S32 = record { le = tt }
+
+kind_least-low : (kind : Kind) → negsuc 2147483647 ≤ℤ kind_least kind
+kind_least-low (Num ty point) = least_of-low ty
+kind_least-low Truth = record { le = tt }
+
+kind_greatest-high : (kind : Kind) → kind_greatest kind ≤ℤ pos 4294967295
+kind_greatest-high (Num ty point) = greatest_of-high ty
+kind_greatest-high Truth = record { le = tt }
+
+three_tests : (a b c : Bool) → (a && b && c) ≡ true → (a ≡ true) × (b ≡ true) × (c ≡ true)
+three_tests a b c h =
+    let h1 = and_parts (a && b) c h in
+    let h2 = and_parts a b h1.0 in
+    (h2.0, h2.1, h1.1)
+
+small_from_tests : (kind : Kind) (role : Role) (b : Bounds) → is_allowed kind role b ≡ true → int_le b.lo b.hi ≡ true → int_le (pos 0) b.err ≡ true → IsSmall b
+unfolding is_allowed
+small_from_tests kind Value b h order positive =
+    let t = three_tests _ _ _ h in
+    record {
+      low = int_le_trans _ _ _ (kind_least-low kind) (int_le-true (kind_least kind) b.lo t.0);
+      ordered = int_le-true b.lo b.hi order;
+      high = int_le_trans _ _ _ (int_le-true b.hi (kind_greatest kind) t.1) (kind_greatest-high kind);
+      positive = int_le-true (pos 0) b.err positive;
+      near = int_lt-true b.err (pos (2 ^ 40)) t.2;
+    }
+
+pub small_from_sound : (wires : List Wire) (entries : List Bounds) (k : ℕ) → is_sound_at wires entries k ≡ true → IsSmall (entry_at entries k)
+unfolding is_sound_at
+small_from_sound wires entries k h =
+    let t = three_tests _ _ _ h in
+    small_from_tests _ _ (entry_at entries k) t.0 t.1 t.2
+
+pub small_entry : (wires : List Wire) (entries : List Bounds) → AreSound wires entries → (w : ℕ) → w < length wires → IsSmall (entry_at entries w)
+small_entry wires entries sound w h =
+    small_from_sound wires entries w (sound w (rw (length-parts_of wires) h))
+
+-- the three tests of bounds, whatever the role
+pub allowed_from_tests : (kind : Kind) (role : Role) (b : Bounds) (least greatest : ℤ) (t : Bool) → FitsSigned w64 least → FitsSigned w64 greatest → least ≡ part_least kind Value → greatest ≡ part_greatest kind Value → t ≡ (int_le (to_z w64 (of_z w64 least)) b.lo && int_le b.hi (to_z w64 (of_z w64 greatest)) && int_lt b.err (pos (2 ^ 40))) → t ≡ is_allowed kind role b
+unfolding is_allowed
+allowed_from_tests kind Value b least greatest t f g p q e =
+    let plain = rw (to_z-of_z w64 least f, to_z-of_z w64 greatest g) at e in
+    rw (p, q) at plain
+
+-- the part of a number stands on a wire
+pub part_at-wire : (wires : List Wire) (k : ℕ) → k < length (parts_of wires) → (part_at wires k).wire.0 < length wires
+part_at-wire wires k h =
+    let there : k < length wires = rw (length-parts_of wires) at h in
+    rw (get_or-parts_of wires k there) there
+
+-- a point that was read
+pub point-valid : (net : NetData) (i : ℕ) (kind : Kind) (point : ℕ) (ty : Ty) → IsValid net → i < length net.wires → kind ≡ (wire_at net.wires i).kind → kind ≡ Num ty point → point ≤ 15
+point-valid net i kind point ty valid h is case =
+    rw (ap point_of (sym case ∙ is)) (point_of-valid net i valid h)

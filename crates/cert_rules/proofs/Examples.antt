@@ -1,0 +1,45 @@
+-- A worked network by the definitions: `b` at the binary point 4 is converted to the point 0 and added to `a`. Its
+-- certificate is accepted; with a smaller error of the conversion, or a smaller range of the sum, the part fails.
+use Rattle.std.specs.Prelude.{◌≡◌, ℕ, List, [], ◌∷◌, pos, negsuc, Some, None, refl, codes}
+use Rattle.fx_core.specs.Rounding.{rounded, least_quotient_above}
+use Rattle.fx_fraction.specs.Fraction.{whole, over, plus, times}
+use Rattle.fx_core.specs.declared.word_type.Ty.TheVariants.{S16}
+use Rattle.net_model.specs.declared.first.ArithOp.TheVariants.{Add}
+use Rattle.net_model.specs.declared.first.ScaledOp.TheVariants.{Convert}
+use Rattle.net_model.specs.declared.wires.Kind.TheVariants.{Num}
+use Rattle.net_model.specs.declared.wires.Block.TheVariants.{Arith, Scaled}
+use Rattle.net_model.specs.declared.wires.Item.TheVariants.{Input, Block as OfBlock}
+use Rattle.net_model.specs.declared.wires.Wire.{Wire}
+use Rattle.net_model.specs.Formulas.{point_factor}
+use Rattle.net_meaning.specs.Blocks.{formula}
+use Rattle.cert_rules.specs.declared.bounds.Bounds.{Bounds}
+use Rattle.cert_rules.specs.Certificates.{entry_of}
+use Rattle.cert_rules.specs.Ranges.{corner_values}
+use Rattle.cert_rules.specs.Rules.{error_of, proposed, rule_of, is_allowed}
+use Rattle.cert_rules.specs.Acceptance.{is_sound_at, is_inductive_at, first_failing, first_rejected}
+
+wires : List Wire
+wires =
+    record { name = codes "a"; kind = Num S16 0; item = Input (pos 0) (pos 1000) } ∷
+    record { name = codes "b"; kind = Num S16 4; item = Input (negsuc 159) (pos 160) } ∷
+    record { name = codes "c"; kind = Num S16 0; item = OfBlock (Scaled Convert (record { x = S16; y = S16; o = S16 }) (record { 0 = 1 }) (record { 0 = 1 })) } ∷
+    record { name = codes "s"; kind = Num S16 0; item = OfBlock (Arith Add (record { x = S16; y = S16; o = S16 }) (record { 0 = 0 }) (record { 0 = 2 }) (record { 0 = 0 }) 0) } ∷ []
+
+entries : ℕ → ℕ → List Bounds
+entries error highest =
+    record { lo = pos 0; hi = pos 1000; err = pos 0 } ∷
+    record { lo = negsuc 159; hi = pos 160; err = pos 0 } ∷
+    record { lo = negsuc 9; hi = pos 10; err = pos error } ∷
+    record { lo = negsuc 9; hi = pos highest; err = pos 65536 } ∷ []
+
+accepted : first_rejected wires (entries 65536 1010) ≡ None
+unfolding wires entries first_rejected first_failing is_sound_at is_inductive_at rule_of is_allowed proposed error_of corner_values entry_of formula point_factor rounded least_quotient_above whole over plus times
+accepted = refl
+
+error_too_small : first_rejected wires (entries 65535 1010) ≡ Some 2
+unfolding wires entries first_rejected first_failing is_sound_at is_inductive_at rule_of is_allowed proposed error_of corner_values entry_of formula point_factor rounded least_quotient_above whole over plus times
+error_too_small = refl
+
+range_too_small : first_rejected wires (entries 65536 1009) ≡ Some 3
+unfolding wires entries first_rejected first_failing is_sound_at is_inductive_at rule_of is_allowed proposed error_of corner_values entry_of formula point_factor rounded least_quotient_above whole over plus times
+range_too_small = refl

@@ -1,0 +1,129 @@
+-- How the first part that fails a test is found, one part at a time.
+use Rattle.std.proofs.Common.{◌≡◌, ℕ, zero, suc, ◌+◌, ◌-◌, ◌<◌, ◌≤◌, Bool, true, false, cond, ◌&&◌, List, length, ℤ, pos, int_le, refl, sym, ap, ◌∙◌, arith, Option, Some, None, option_map, eq-or-lt_of_le, inl, inr, Fits, w32, Fits-le, Fits-lit, FitsSigned, to_z, of_z, w64}
+use Rattle.std.proofs.lemmas.Int.{to_z-of_z}
+use Rattle.net_model.specs.declared.wires.PartNo.{PartNo}
+use Rattle.net_model.specs.declared.wires.Item.{Item}
+use Rattle.net_model.specs.declared.wires.Item.TheVariants.{Input, Const, Block as OfBlock}
+use Rattle.net_model.specs.declared.wires.Role.{Role}
+use Rattle.net_model.specs.declared.wires.Role.TheVariants.{Value}
+use Rattle.net_model.specs.declared.wires.Wire.{Wire}
+use Rattle.net_model.specs.Wires.{NetData, wire_at, parts_of}
+use Rattle.net_model.specs.Validity.{IsValid}
+use Rattle.net_model.proofs.ValidityFacts.{length-parts_of, length-valid}
+use Rattle.cert_rules.specs.declared.bounds.Bounds.{Bounds}
+use Rattle.cert_rules.specs.Certificates.{entry_of}
+use Rattle.cert_rules.specs.Rules.{is_allowed, rule_of}
+use Rattle.cert_rules.specs.Acceptance.{entry_at, first_failing, first_rejected, is_inductive_at, is_sound_at, lies_inside, or_later, part_at, start_of, starts_inside}
+use Rattle.cert_rules.specs.Entries.{AreSound}
+
+-- ---- one step of the search
+
+first_failing-step : (test : ℕ → Bool) (k m : ℕ) → first_failing test k (suc m) ≡ cond (test k) (first_failing test (suc k) m) (Some k)
+unfolding first_failing
+first_failing-step test k m = refl
+
+first_failing-at : (test : ℕ → Bool) (k n : ℕ) → k < n → first_failing test k (n - k) ≡ cond (test k) (first_failing test (k + 1) (n - (k + 1))) (Some k)
+first_failing-at test k n h =
+    let e : n - k ≡ suc (n - (k + 1)) = omega arith in
+    let f : suc k ≡ k + 1 = omega arith in
+    ap (first_failing test k) e ∙ first_failing-step test k (n - (k + 1)) ∙ ap (λ j. cond (test k) (first_failing test j (n - (k + 1))) (Some k)) f
+
+-- a part that passes is left behind
+pub first_failing-passed : (test : ℕ → Bool) (k n : ℕ) (all : Option ℕ) → k < n → test k ≡ true → all ≡ first_failing test k (n - k) → all ≡ first_failing test (k + 1) (n - (k + 1))
+first_failing-passed test k n all h t e =
+    e ∙ first_failing-at test k n h ∙ ap (λ b. cond b (first_failing test (k + 1) (n - (k + 1))) (Some k)) t
+
+-- one that fails is the answer
+pub first_failing-failed : (test : ℕ → Bool) (k n : ℕ) (all : Option ℕ) → k < n → test k ≡ false → all ≡ first_failing test k (n - k) → Some k ≡ all
+first_failing-failed test k n all h t e =
+    sym (e ∙ first_failing-at test k n h ∙ ap (λ b. cond b (first_failing test (k + 1) (n - (k + 1))) (Some k)) t)
+
+-- where none is left all pass
+pub first_failing-end : (test : ℕ → Bool) (k n : ℕ) (all : Option ℕ) → n ≤ k → all ≡ first_failing test k (n - k) → None ≡ all
+unfolding first_failing
+first_failing-end test k n all h e =
+    let z : n - k ≡ 0 = omega arith in
+    sym (e ∙ ap (first_failing test k) z)
+
+-- ---- what it says that there is none
+
+none_case : (test : ℕ → Bool) (k m i : ℕ) (b : Bool) → test k ≡ b → cond b (first_failing test (suc k) m) (Some k) ≡ None → (first_failing test (suc k) m ≡ None → k < i → test i ≡ true) → k ≤ i → test i ≡ true
+none_case test k m i true t e later h =
+    elim (eq-or-lt_of_le h) [ inl same ↦ ap test (sym same) ∙ t | inr less ↦ later e less ]
+none_case test k m i false t e later h = cc
+
+all_pass_from : (test : ℕ → Bool) (k m i : ℕ) → first_failing test k m ≡ None → k ≤ i → i < k + m → test i ≡ true
+all_pass_from test k zero i e h l = absurd (omega arith)
+all_pass_from test k (suc m) i e h l =
+    none_case test k m i (test k) refl (sym (first_failing-step test k m) ∙ e) (λ f g. let up : suc k ≤ i = omega arith in let end : i < suc k + m = omega arith in all_pass_from test (suc k) m i f up end) h
+
+-- where no entry fails the first test each is sound
+pub sound_from_none : (wires : List Wire) (entries : List Bounds) (found : Option PartNo) → option_map (λ p. p.0) found ≡ first_failing (is_sound_at wires entries) 0 (length (parts_of wires)) → found ≡ None → AreSound wires entries
+sound_from_none wires entries found e none k h =
+    let nothing : first_failing (is_sound_at wires entries) 0 (length (parts_of wires)) ≡ None = sym e ∙ ap (option_map (λ (p : PartNo). p.0)) none in
+    all_pass_from (is_sound_at wires entries) 0 (length (parts_of wires)) k nothing (omega arith) (omega arith)
+
+-- ---- the two searches in turn
+
+pub rejected_first : (wires : List Wire) (entries : List Bounds) (found : Option PartNo) (k : PartNo) → option_map (λ p. p.0) found ≡ first_failing (is_sound_at wires entries) 0 (length (parts_of wires)) → found ≡ Some k → Some k.0 ≡ first_rejected wires entries
+unfolding first_rejected
+rejected_first wires entries found k e is =
+    ap (λ t. or_later t (first_failing (is_inductive_at wires entries) 0 (length (parts_of wires)))) (sym (ap (option_map (λ (p : PartNo). p.0)) is) ∙ e)
+
+pub rejected_later : (wires : List Wire) (entries : List Bounds) (found later : Option PartNo) → option_map (λ p. p.0) found ≡ first_failing (is_sound_at wires entries) 0 (length (parts_of wires)) → found ≡ None → option_map (λ p. p.0) later ≡ first_failing (is_inductive_at wires entries) 0 (length (parts_of wires)) → option_map (λ p. p.0) later ≡ first_rejected wires entries
+unfolding first_rejected
+rejected_later wires entries found later e is f =
+    f ∙ ap (λ t. or_later t (first_failing (is_inductive_at wires entries) 0 (length (parts_of wires)))) (sym (ap (option_map (λ (p : PartNo). p.0)) is) ∙ e)
+
+-- ---- the second test
+
+none_starts : (item : Item) (role : Role) → start_of item role ≡ None
+none_starts (Input lo hi) Value = refl
+none_starts (Const value) Value = refl
+none_starts (OfBlock b) Value = refl
+
+-- a part is inductive where its rule's bounds lie within its entry
+pub inductive_is : (wires : List Wire) (entries : List Bounds) (k : ℕ) → is_inductive_at wires entries k ≡ lies_inside (rule_of wires (part_at wires k).wire.0 (part_at wires k).role (entry_of wires entries)) (entry_at entries k)
+unfolding is_inductive_at
+inductive_is wires entries k =
+    ap (λ s. starts_inside s (entry_at entries k) && lies_inside (rule_of wires (part_at wires k).wire.0 (part_at wires k).role (entry_of wires entries)) (entry_at entries k)) (none_starts (wire_at wires (part_at wires k).wire.0).item (part_at wires k).role)
+
+-- the number of parts is a word
+pub count_fits : (net : NetData) → IsValid net → Fits w32 (length (parts_of net.wires))
+count_fits net valid =
+    let few : length net.wires ≤ 512 = length-valid net valid in
+    rw (length-parts_of net.wires) (Fits-le few (Fits-lit tt))
+
+-- ---- the two tests of a part
+
+pub sound_when : (wires : List Wire) (entries : List Bounds) (k : ℕ) (t p : Bool) → t ≡ is_allowed (wire_at wires (part_at wires k).wire.0).kind (part_at wires k).role (entry_at entries k) → t ≡ true → p ≡ (int_le (entry_at entries k).lo (entry_at entries k).hi && int_le (pos 0) (entry_at entries k).err) → p ≡ is_sound_at wires entries k
+unfolding is_sound_at
+sound_when wires entries k t p e passed f =
+    f ∙ ap (λ a. a && int_le (entry_at entries k).lo (entry_at entries k).hi && int_le (pos 0) (entry_at entries k).err) (sym passed ∙ e)
+
+pub sound_not : (wires : List Wire) (entries : List Bounds) (k : ℕ) (t : Bool) → t ≡ is_allowed (wire_at wires (part_at wires k).wire.0).kind (part_at wires k).role (entry_at entries k) → t ≡ false → t ≡ is_sound_at wires entries k
+unfolding is_sound_at
+sound_not wires entries k t e failed =
+    failed ∙ ap (λ a. a && int_le (entry_at entries k).lo (entry_at entries k).hi && int_le (pos 0) (entry_at entries k).err) (sym failed ∙ e)
+
+pub inductive_some : (wires : List Wire) (entries : List Bounds) (k : ℕ) (found : Option Bounds) (given : Bounds) (t : Bool) → found ≡ rule_of wires (part_at wires k).wire.0 (part_at wires k).role (entry_of wires entries) → found ≡ Some given → t ≡ (int_le (entry_at entries k).lo given.lo && int_le given.hi (entry_at entries k).hi && int_le given.err (entry_at entries k).err) → t ≡ is_inductive_at wires entries k
+inductive_some wires entries k found given t e is f =
+    f ∙ ap (λ r. lies_inside r (entry_at entries k)) (sym is ∙ e) ∙ sym (inductive_is wires entries k)
+
+pub inductive_none : (wires : List Wire) (entries : List Bounds) (k : ℕ) (found : Option Bounds) → found ≡ rule_of wires (part_at wires k).wire.0 (part_at wires k).role (entry_of wires entries) → found ≡ None → false ≡ is_inductive_at wires entries k
+inductive_none wires entries k found e is =
+    ap (λ r. lies_inside r (entry_at entries k)) (sym is ∙ e) ∙ sym (inductive_is wires entries k)
+
+-- ---- comparisons of words
+
+abbrev word : ℤ → ℤ
+word z = to_z w64 (of_z w64 z)
+
+pub all_three : (entry given : Bounds) → FitsSigned w64 entry.lo → FitsSigned w64 given.lo → FitsSigned w64 given.hi → FitsSigned w64 entry.hi → FitsSigned w64 given.err → FitsSigned w64 entry.err → int_le (word entry.lo) (word given.lo) ≡ true → int_le (word given.hi) (word entry.hi) ≡ true → int_le (word given.err) (word entry.err) ≡ (int_le entry.lo given.lo && int_le given.hi entry.hi && int_le given.err entry.err)
+all_three entry given f1 f2 f3 f4 f5 f6 p q =
+    let p' : int_le entry.lo given.lo ≡ true = rw (to_z-of_z w64 entry.lo f1, to_z-of_z w64 given.lo f2) at p in
+    let q' : int_le given.hi entry.hi ≡ true = rw (to_z-of_z w64 given.hi f3, to_z-of_z w64 entry.hi f4) at q in
+    rw (to_z-of_z w64 given.err f5, to_z-of_z w64 entry.err f6, p', q') refl
+
+pub not_both : {P : Type 0} → false ≡ true → P
+not_both e = cc

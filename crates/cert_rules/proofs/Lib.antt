@@ -1,0 +1,14 @@
+pub mod Examples
+pub mod Corners
+pub mod EntryFacts
+pub mod Sizes
+pub mod Findings
+pub mod RuleFacts
+pub mod Hulls
+pub mod Errors
+pub mod Routines
+pub mod RuleSoundness
+pub mod Places
+pub mod AcceptedEntries
+pub mod TheoremProof
+pub mod AcceptanceLaws

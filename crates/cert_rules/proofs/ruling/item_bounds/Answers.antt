@@ -1,0 +1,10 @@
+use Rattle.std.proofs.Common.{rules}
+use Rattle.cert_rules.proofs.RuleFacts.{constant_returns, input_returns}
+use Rattle.cert_rules.proofs.ruling.item_bounds.Goals as goal
+
+pub returns-in-Input : goal.returns-in-Input
+returns-in-Input c =
+    input_returns _ _ _ _ _ _ _ (search rules) (search rules) c.item_at.ensures c.in-Input.is
+
+pub returns-in-Const : goal.returns-in-Const
+returns-in-Const c = constant_returns _ _ _ _ _ _ (search rules) c.item_at.ensures c.in-Const.is

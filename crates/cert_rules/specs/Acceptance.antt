@@ -1,0 +1,87 @@
+-- When a certificate is accepted, and which part fails first where it isn't.
+use Rattle.std.specs.Prelude.{◌≡◌, ℕ, zero, suc, ◌<◌, Bool, true, false, ◌&&◌, List, length, get_or, ℤ, pos, int_le, IsTrue, Option, Some, None, if◌then◌else◌}
+use Rattle.net_model.specs.declared.wires.Item.{Item}
+use Rattle.net_model.specs.declared.wires.Item.TheVariants.{Input, Const, Block as OfBlock}
+use Rattle.net_model.specs.declared.wires.Block.{Block}
+use Rattle.net_model.specs.declared.wires.Block.TheVariants.{Arith, Scaled}
+use Rattle.net_model.specs.declared.wires.Role.{Role}
+use Rattle.net_model.specs.declared.wires.Role.TheVariants.{Value}
+use Rattle.net_model.specs.declared.wires.Part.{Part}
+use Rattle.net_model.specs.declared.wires.Wire.{Wire}
+use Rattle.net_model.specs.Wires.{wire_at, parts_of, no_part}
+use Rattle.cert_rules.specs.declared.bounds.Bounds.{Bounds}
+use Rattle.cert_rules.specs.Certificates.{no_bounds, entry_of}
+use Rattle.cert_rules.specs.Rules.{is_allowed, rule_of}
+
+-- a block is smooth: it doesn't switch, look up, or take a remainder or bits; no built block does
+abbrev pub is_smooth_block : Block → Bool
+is_smooth_block (Arith op v x y z sh) = true
+is_smooth_block (Scaled op v x y) = true
+
+abbrev pub is_smooth : Item → Bool
+is_smooth (Input lo hi) = true
+is_smooth (Const value) = true
+is_smooth (OfBlock b) = is_smooth_block b
+
+-- a network is smooth where each block is
+abbrev pub IsSmooth : List Wire → Type 0
+IsSmooth wires = (i : ℕ) → i < length wires → IsTrue (is_smooth (wire_at wires i).item)
+
+-- an entry is allowed for a part, its range isn't empty and its error isn't negative
+abbrev pub is_sound_entry : List Wire → Part → Bounds → Bool
+is_sound_entry wires part b = is_allowed (wire_at wires part.wire.0).kind part.role b && int_le b.lo b.hi && int_le (pos 0) b.err
+
+-- the value from which a part starts, where it starts from one: no part of a built block does
+abbrev pub start_of : Item → Role → Option ℤ
+start_of (Input lo hi) Value = None
+start_of (Const value) Value = None
+start_of (OfBlock b) Value = None
+
+-- the value from which a part starts lies in the entry's range
+abbrev pub starts_inside : Option ℤ → Bounds → Bool
+starts_inside None b = true
+starts_inside (Some z) b = int_le b.lo z && int_le z b.hi
+
+-- the bounds that a rule gives lie within an entry; where it gives none they don't
+abbrev pub lies_inside : Option Bounds → Bounds → Bool
+lies_inside None entry = false
+lies_inside (Some r) entry = int_le entry.lo r.lo && int_le r.hi entry.hi && int_le r.err entry.err
+
+-- a part starts within its entry, and its rule gives no more than the entry allows
+abbrev pub is_inductive_entry : List Wire → List Bounds → Part → Bounds → Bool
+is_inductive_entry wires entries part b = starts_inside (start_of (wire_at wires part.wire.0).item part.role) b && lies_inside (rule_of wires part.wire.0 part.role (entry_of wires entries)) b
+
+abbrev pub part_at : List Wire → ℕ → Part
+part_at wires k = get_or (parts_of wires) k no_part
+
+abbrev pub entry_at : List Bounds → ℕ → Bounds
+entry_at entries k = get_or entries k no_bounds
+
+-- the two tests of part number k
+unfoldable pub is_sound_at : List Wire → List Bounds → ℕ → Bool
+is_sound_at wires entries k = is_sound_entry wires (part_at wires k) (entry_at entries k)
+
+unfoldable pub is_inductive_at : List Wire → List Bounds → ℕ → Bool
+is_inductive_at wires entries k = is_inductive_entry wires entries (part_at wires k) (entry_at entries k)
+
+-- a certificate is accepted: the network is smooth, there is one entry for each part, and each is sound and inductive
+pub record Accepts (wires : List Wire) (entries : List Bounds) : Type 0 where
+  pub smooth : IsSmooth wires
+  pub complete : length entries ≡ length (parts_of wires)
+  pub sound : (k : ℕ) → k < length (parts_of wires) → IsTrue (is_sound_at wires entries k)
+  pub inductive : (k : ℕ) → k < length (parts_of wires) → IsTrue (is_inductive_at wires entries k)
+
+-- the first of n numbers, from k on, that fails a test
+unfoldable pub first_failing : (ℕ → Bool) → ℕ → ℕ → Option ℕ
+first_failing test k zero = None
+first_failing test k (suc n) = if test k then first_failing test (suc k) n else Some k
+
+-- the earlier of two findings: the first where there is one
+abbrev pub or_later : Option ℕ → Option ℕ → Option ℕ
+or_later (Some k) later = Some k
+or_later None later = later
+
+-- the number of the first part that fails: the first whose entry isn't sound; where all are, the first whose isn't
+-- inductive
+unfoldable pub first_rejected : List Wire → List Bounds → Option ℕ
+first_rejected wires entries = or_later (first_failing (is_sound_at wires entries) 0 (length (parts_of wires))) (first_failing (is_inductive_at wires entries) 0 (length (parts_of wires)))

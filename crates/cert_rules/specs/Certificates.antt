@@ -1,0 +1,32 @@
+-- What a certificate says of the parts of a network, and what it promises over a recording.
+use Rattle.std.specs.Prelude.{ℕ, ◌<◌, List, length, get_or, ℤ, pos, ◌≤ℤ◌, IsTrue}
+use Rattle.fx_fraction.specs.Fraction.{Fraction, whole, over, distance, AtMost}
+use Rattle.net_model.specs.declared.wires.Role.{Role}
+use Rattle.net_model.specs.declared.wires.Role.TheVariants.{Value}
+use Rattle.net_model.specs.declared.wires.Wire.{Wire}
+use Rattle.net_model.specs.Wires.{wire_at, roles_of, parts_of, place_in, has_role}
+use Rattle.net_meaning.specs.Cells.{Cell, cell_at}
+use Rattle.net_meaning.specs.Blocks.{machine, exact}
+use Rattle.cert_rules.specs.declared.bounds.Bounds.{Bounds}
+
+-- the bounds that are read where there are none
+abbrev pub no_bounds : Bounds
+no_bounds = record { lo = pos 0; hi = pos 0; err = pos 0 }
+
+-- what a certificate, which has one entry for each part in their order, says of a part of a wire
+unfoldable pub entry_of : List Wire → List Bounds → ℕ → Role → Bounds
+entry_of wires entries wire role = get_or entries (place_in wire role (parts_of wires)) no_bounds
+
+-- what a cell has of a part of its wire
+abbrev pub held_by : {V : Type 0} → Role → Cell V → V
+held_by Value cell = cell.value
+
+-- a machine's value lies in the range, and differs from the exact one by at most the error
+pub record IsWithin (b : Bounds) (m : ℤ) (e : Fraction) : Type 0 where
+  pub low : b.lo ≤ℤ m
+  pub high : m ≤ℤ b.hi
+  pub near : AtMost (distance (whole m) e) (over b.err 65536)
+
+-- at each row and for each part of a wire, the machine's value is within the certificate's bounds
+abbrev pub Within : List Wire → List Bounds → List (List ℤ) → List (List (Cell ℤ)) → List (List (Cell Fraction)) → Type 0
+Within wires entries rows m e = (j i : ℕ) (role : Role) → j < length rows → i < length wires → IsTrue (has_role role (roles_of (wire_at wires i).item)) → IsWithin (entry_of wires entries i role) (held_by role (cell_at machine m j i)) (held_by role (cell_at exact e j i))

@@ -1,0 +1,19 @@
+-- What is known of entries that are sound: that each is, and how small one is.
+use Rattle.std.specs.Prelude.{ℕ, ◌<◌, ◌^◌, List, length, pos, negsuc, ◌≤ℤ◌, ◌<ℤ◌, IsTrue}
+use Rattle.net_model.specs.declared.wires.Wire.{Wire}
+use Rattle.net_model.specs.Wires.{parts_of}
+use Rattle.cert_rules.specs.declared.bounds.Bounds.{Bounds}
+use Rattle.cert_rules.specs.Acceptance.{is_sound_at}
+
+-- each part's entry is sound
+abbrev pub AreSound : List Wire → List Bounds → Type 0
+AreSound wires entries = (k : ℕ) → k < length (parts_of wires) → IsTrue (is_sound_at wires entries k)
+
+-- bounds of a sound entry, whatever its part: the range isn't empty and lies between the ends of all types, and the
+-- error is neither negative nor above the largest cap
+pub record IsSmall (b : Bounds) : Type 0 where
+  pub low : negsuc 2147483647 ≤ℤ b.lo
+  pub ordered : b.lo ≤ℤ b.hi
+  pub high : b.hi ≤ℤ pos 4294967295
+  pub positive : pos 0 ≤ℤ b.err
+  pub near : b.err <ℤ pos (2 ^ 40)

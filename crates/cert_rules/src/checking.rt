@@ -1,0 +1,96 @@
+// Which part of a certificate fails first.
+
+ghost use Rattle.std.specs.Prelude.{◌≡◌, ◌<◌, ◌&&◌, int_le, length, option_map, pos};
+ghost use Rattle.net_model.specs.Wires.{parts_of};
+ghost use Rattle.cert_rules.specs.Acceptance.{first_failing, first_rejected, is_inductive_at, is_sound_at};
+ghost use Rattle.cert_rules.specs.Entries.{AreSound};
+
+use crate::bounds::Bounds;
+use crate::limits::allowed;
+use crate::ruling::rule;
+use net_model::{Network, PartNo};
+
+/// The first part that a certificate with an entry for each part fails: the first whose entry isn't sound;
+/// where all are sound, the first whose entry is narrower than its rule gives. None where it is accepted.
+pub fn rejected_part(net: &Network, entries: &[Bounds]) -> Option<PartNo>
+    requires { length entries.now ≡ length (parts_of net.now.wires) }
+    ensures { option_map (λ p. p.0) result ≡ first_rejected net.now.wires entries.now }
+{
+    match first_unsound(net, entries) {
+        Some(part) => Some(part),
+        None => first_narrow(net, entries),
+    }
+}
+
+fn first_unsound(net: &Network, entries: &[Bounds]) -> Option<PartNo>
+    requires { length entries.now ≡ length (parts_of net.now.wires) }
+    ensures { option_map (λ p. p.0) result
+        ≡ first_failing (is_sound_at net.now.wires entries.now) 0 (length (parts_of net.now.wires)) }
+{
+    for k in 0..part_count(net) {
+        if !is_sound(net, PartNo(k), entries) {
+            return Some(PartNo(k));
+        }
+    }
+    None
+}
+
+fn first_narrow(net: &Network, entries: &[Bounds]) -> Option<PartNo>
+    requires complete { length entries.now ≡ length (parts_of net.now.wires) }
+    requires sound { AreSound net.now.wires entries.now }
+    ensures { option_map (λ p. p.0) result
+        ≡ first_failing (is_inductive_at net.now.wires entries.now) 0 (length (parts_of net.now.wires)) }
+{
+    for k in 0..part_count(net) {
+        if !is_inductive(net, PartNo(k), entries) {
+            return Some(PartNo(k));
+        }
+    }
+    None
+}
+
+/// How many parts there are: no more than a network may have wires, so their numbers fit.
+fn part_count(net: &Network) -> u32
+    ensures { result ≡ length (parts_of net.now.wires) }
+{
+    net.parts().len() as u32
+}
+
+/// Whether a part's entry is allowed, its range isn't empty and its error isn't negative.
+fn is_sound(net: &Network, part: PartNo, entries: &[Bounds]) -> bool
+    requires there { part.0 < length (parts_of net.now.wires) }
+    requires complete { length entries.now ≡ length (parts_of net.now.wires) }
+    ensures { result ≡ is_sound_at net.now.wires entries.now part.0 }
+{
+    let entry = entries[part.0 as usize];
+    allowed(net, part, entry) && is_proper(entry)
+}
+
+/// Whether a range isn't empty and an error isn't negative.
+fn is_proper(b: Bounds) -> bool
+    ensures { result ≡ (int_le b.lo b.hi && int_le (pos 0) b.err) }
+{
+    b.lo <= b.hi && 0 <= b.err
+}
+
+/// Whether a part's rule gives no more than its entry. No part of a built block has a first value of its
+/// own, so none has to be in the range.
+fn is_inductive(net: &Network, part: PartNo, entries: &[Bounds]) -> bool
+    requires there { part.0 < length (parts_of net.now.wires) }
+    requires complete { length entries.now ≡ length (parts_of net.now.wires) }
+    requires sound { AreSound net.now.wires entries.now }
+    ensures { result ≡ is_inductive_at net.now.wires entries.now part.0 }
+{
+    let entry = entries[part.0 as usize];
+    match rule(net, part, entries) {
+        Some(given) => holds_within(entry, given),
+        None => false,
+    }
+}
+
+/// Whether bounds lie within an entry.
+fn holds_within(entry: Bounds, given: Bounds) -> bool
+    ensures { result ≡ (int_le entry.lo given.lo && int_le given.hi entry.hi && int_le given.err entry.err) }
+{
+    entry.lo <= given.lo && given.hi <= entry.hi && given.err <= entry.err
+}

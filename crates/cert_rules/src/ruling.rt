@@ -1,0 +1,93 @@
+// The rule of each part: the bounds that it gets from the bounds of others.
+
+ghost use Rattle.std.specs.Prelude.{◌≡◌, ◌<◌, length};
+ghost use Rattle.net_model.specs.Wires.{parts_of, wire_at};
+ghost use Rattle.net_model.specs.Validity.{IsValid};
+ghost use Rattle.cert_rules.specs.Certificates.{entry_of};
+ghost use Rattle.cert_rules.specs.Rules.{proposed, rule_of};
+ghost use Rattle.cert_rules.specs.Acceptance.{part_at};
+ghost use Rattle.cert_rules.specs.Entries.{AreSound};
+
+use crate::bounds::Bounds;
+use crate::limits::is_within_limits;
+use crate::lookups::{item_at, kind_at, part_numbered, point_at, value_entry};
+use crate::steps::{converted_bounds, sum_bounds};
+use net_model::first::{ArithOp, ScaledOp};
+use net_model::{Block, Item, Network, PartNo, Role, WireNo};
+
+/// The bounds of a part by its rule, from an entry for each part: None where they aren't allowed.
+pub fn rule(net: &Network, part: PartNo, all: &[Bounds]) -> Option<Bounds>
+    requires there { part.0 < length (parts_of net.now.wires) }
+    requires complete { length all.now ≡ length (parts_of net.now.wires) }
+    requires sound { AreSound net.now.wires all.now }
+    ensures { let p = part_at net.now.wires part.0 in
+        result ≡ rule_of net.now.wires p.wire.0 p.role (entry_of net.now.wires all.now) }
+{
+    let part = part_numbered(net, part);
+    match part.role {
+        Role::Value => value_rule(net, part.wire, all),
+    }
+}
+
+/// The rule of a wire's value. No built block divides, so none fails.
+fn value_rule(net: &Network, wire: WireNo, all: &[Bounds]) -> Option<Bounds>
+    requires valid { IsValid net.now }
+    requires there { wire.0 < length net.now.wires }
+    requires complete { length all.now ≡ length (parts_of net.now.wires) }
+    requires sound { AreSound net.now.wires all.now }
+    ensures { result ≡ rule_of net.now.wires wire.0 Role.Value (entry_of net.now.wires all.now) }
+{
+    let b = item_bounds(net, wire, all);
+    if is_within_limits(kind_at(net, wire), Role::Value, b) {
+        Some(b)
+    } else {
+        None
+    }
+}
+
+/// The bounds of a wire's value, before it is asked whether they are allowed.
+fn item_bounds(net: &Network, wire: WireNo, all: &[Bounds]) -> Bounds
+    requires valid { IsValid net.now }
+    requires there { wire.0 < length net.now.wires }
+    requires complete { length all.now ≡ length (parts_of net.now.wires) }
+    requires sound { AreSound net.now.wires all.now }
+    ensures { let w = wire_at net.now.wires wire.0 in
+        result ≡ proposed net.now.wires w.kind w.item (λ k. entry_of net.now.wires all.now k Role.Value) }
+{
+    match item_at(net, wire) {
+        Item::Input { lo, hi } => Bounds { lo, hi, err: 0 },
+        Item::Const { value } => Bounds {
+            lo: value,
+            hi: value,
+            err: 0,
+        },
+        Item::Block(block) => block_bounds(net, wire, block, all),
+    }
+}
+
+/// The bounds of a block's value on its wire.
+fn block_bounds(net: &Network, wire: WireNo, block: Block, all: &[Bounds]) -> Bounds
+    requires valid { IsValid net.now }
+    requires there { wire.0 < length net.now.wires }
+    requires block { (wire_at net.now.wires wire.0).item ≡ Item.Block block }
+    requires complete { length all.now ≡ length (parts_of net.now.wires) }
+    requires sound { AreSound net.now.wires all.now }
+    ensures { result ≡ proposed net.now.wires (wire_at net.now.wires wire.0).kind (Item.Block block)
+        (λ k. entry_of net.now.wires all.now k Role.Value) }
+{
+    match block {
+        Block::Arith { op, x, y, .. } => {
+            let first = value_entry(all, x);
+            let second = value_entry(all, y);
+            match op {
+                ArithOp::Add => sum_bounds(first, second),
+            }
+        }
+        Block::Scaled { op, x, .. } => {
+            let first = value_entry(all, x);
+            match op {
+                ScaledOp::Convert => converted_bounds(first, point_at(net, x), point_at(net, wire)),
+            }
+        }
+    }
+}

@@ -1,0 +1,66 @@
+use crate::{Bounds, rejected_part};
+use fx_core::Ty;
+use net_model::first::{ArithOp, ScaledOp, Variant};
+use net_model::{Block, Draft, Item, Kind, Name, NameFault, Network, PartNo, Wire, WireNo};
+use std::alloc::Global;
+use std::test::Fail;
+
+const SAME: Variant = Variant {
+    x: Ty::S16,
+    y: Ty::S16,
+    o: Ty::S16,
+};
+
+fn wire(alloc: Global, name: &[u8], point: u8, item: Item) -> Result<Wire, NameFault> {
+    let name = Name::new(alloc, name)?;
+    let kind = Kind::Num(Ty::S16, point);
+    Ok(Wire { name, kind, item })
+}
+
+// Two inputs, the conversion of the second to the first one's binary point, and the sum of both.
+fn sum_of_inputs(alloc: Global) -> Result<Draft, Fail> {
+    let mut wires = Vec::new(alloc);
+    wires.push(wire(alloc, b"a", 0, Item::Input { lo: 0, hi: 1000 })?)?;
+    wires.push(wire(alloc, b"b", 4, Item::Input { lo: -160, hi: 160 })?)?;
+    let c = Item::Block(Block::Scaled {
+        op: ScaledOp::Convert,
+        v: SAME,
+        x: WireNo(1),
+        y: WireNo(1),
+    });
+    wires.push(wire(alloc, b"c", 0, c)?)?;
+    let s = Item::Block(Block::Arith {
+        op: ArithOp::Add,
+        v: SAME,
+        x: WireNo(0),
+        y: WireNo(2),
+        z: WireNo(0),
+        sh: 0,
+    });
+    wires.push(wire(alloc, b"s", 0, s)?)?;
+    let outs = vec![in alloc; WireNo(3)]?;
+    Ok(Draft { wires, outs })
+}
+
+fn bounds(lo: i64, hi: i64, err: i64) -> Bounds {
+    Bounds { lo, hi, err }
+}
+
+#[test]
+fn accepts_and_rejects(rt: HostRuntime) -> Result<(), Fail> {
+    let net = Network::new(rt.alloc(), sum_of_inputs(rt.alloc())?)?;
+    assert_eq!(rt; net.parts().len(), 4);
+    let mut entries = [
+        bounds(0, 1000, 0),
+        bounds(-160, 160, 0),
+        bounds(-10, 10, 65536),
+        bounds(-10, 1010, 65536),
+    ];
+    assert_eq!(rt; rejected_part(&net, &entries), None);
+    entries[2].err = 65535;
+    assert_eq!(rt; rejected_part(&net, &entries), Some(PartNo(2)));
+    entries[2].err = 65536;
+    entries[3].hi = 1009;
+    assert_eq!(rt; rejected_part(&net, &entries), Some(PartNo(3)));
+    Ok(())
+}
