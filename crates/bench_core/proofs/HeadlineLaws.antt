@@ -1,0 +1,190 @@
+-- Where `check` answers 0, the certificate holds.
+use Rattle.std.proofs.Common.{◌≡◌, ◌≢◌, ℕ, ◌<◌, Bool, true, false, List, [], ◌∷◌, ◌++◌, length, Option, Some, None, Result, Ok, Err, refl, sym, ◌∙◌, ap, subst, append-nil, arith, if◌then◌else◌}
+use Rattle.std.specs.Prelude.{⊤, nat_lt, ◌&&◌}
+use Rattle.std.specs.Io.KnownBytes.{Appends}
+use Rattle.fx_io.specs.Outside.{bytes_of}
+use Rattle.net_model.specs.declared.wires.Wire.{Wire}
+use Rattle.net_model.specs.Wires.{NetData, parts_of}
+use Rattle.cert_rules.specs.declared.bounds.Bounds.{Bounds}
+use Rattle.cert_rules.specs.Acceptance.{Accepts, first_rejected}
+use Rattle.cert_rules.proofs.AcceptanceLaws.{accepts_from_none_rejected, all_are_smooth}
+use Rattle.cert_rules.proofs.TheoremProof.{certificates_hold}
+use Rattle.net_model.specs.Text.{network_of, has_unbuilt}
+use Rattle.bench_core.specs.PartNames.{part_name}
+use Rattle.bench_core.specs.CertificateText.{certificate_of}
+use Rattle.net_model.proofs.ReadingLaw.{network_of_valid}
+use Rattle.bench_core.proofs.CertificateLaws.{certificate_of-complete}
+use Rattle.bench_core.specs.Outcomes.{Outcome, Refusal, after, reading, refused, ◌>>=◌}
+use Rattle.bench_core.specs.RefusalTexts.{usage, too_long, not_built, refused_text, not_accepted}
+use Rattle.bench_core.specs.Requests.{Request, check, is_file_word, check_words, request_of}
+use Rattle.bench_core.specs.CheckAnswer.{if_faultless, file_read, network_in, network_read, certificate_in, certificate_read, if_none_rejected, acceptance, accepted_line, tell_accepted, check_entries, check_certificate, check_answer, text_limit}
+use Rattle.bench_core.specs.WholeAnswer.{answer_of, answer_of_request}
+use Rattle.bench_core.specs.Headline.{IsCertified}
+use Rattle.bench_core.specs.Clauses.{Certifies}
+
+-- a step's refusals have other statuses than 0
+abbrev RefusesAbove : {T : Type 0} → Result T Refusal → Type 0
+RefusesAbove {T} step = (r : Refusal) → step ≡ Err r → 0 < r.status
+
+-- the refusal of a step is the one that it is
+same_error : {T : Type 0} (q r : Refusal) → ◌≡◌ {A = Result T Refusal} (Err q) (Err r) → q ≡ r
+same_error q r h = cc
+
+above_from : {T : Type 0} (q : Refusal) → 0 < q.status → RefusesAbove {T = T} (Err q)
+above_from q p r h = subst (λ (s : Refusal). 0 < s.status) (same_error q r h) p
+
+ok_is_not_error : {T : Type 0} (x : T) (r : Refusal) → ◌≡◌ {A = Result T Refusal} (Ok x) (Err r) → ⊥
+ok_is_not_error x r h = cc
+
+-- what a step gave where the work was done in the end
+record Passed {T : Type 0} (step : Result T Refusal) (next : T → Outcome) : Type 0 where
+  given : T
+  gives : step ≡ Ok given
+  done_after : (next given).status ≡ 0
+  prints : (after step next).out ≡ (next given).out
+
+passed : {T : Type 0} (step : Result T Refusal) (next : T → Outcome) → RefusesAbove step → (after step next).status ≡ 0 → Passed step next
+passed (Ok x) next above h = record { given = x; gives = refl; done_after = h; prints = refl }
+passed (Err r) next above h = let p : 0 < r.status = above r refl in absurd (omega arith)
+
+-- ---- the network
+
+same_given : {T : Type 0} (y x : T) → ◌≡◌ {A = Result T Refusal} (Ok y) (Ok x) → y ≡ x
+same_given y x h = cc
+
+-- a text without fault is what it means
+given_faultless : {T F : Type 0} (status : ℕ) (name : List ℕ) (read : Result T F) (x : T) → if_faultless status name read ≡ Ok x → read ≡ Ok x
+given_faultless status name (Ok y) x h = ap Ok (same_given y x h)
+given_faultless status name (Err f) x h = absurd (ok_is_not_error x (refused_text status name) (sym h))
+
+faultless_above : {T F : Type 0} (status : ℕ) (name : List ℕ) (read : Result T F) → 0 < status → RefusesAbove (if_faultless status name read)
+faultless_above status name (Ok y) p r h = absurd (ok_is_not_error y r h)
+faultless_above status name (Err f) p r h = above_from (refused_text status name) p r h
+
+-- two parts of a step
+chain_above : {A B : Type 0} (step : Result A Refusal) (f : A → Result B Refusal) → RefusesAbove step → ((x : A) → RefusesAbove (f x)) → RefusesAbove (step >>= f)
+chain_above (Ok x) f a b = b x
+chain_above (Err q) f a b = above_from q (a q refl)
+
+record Parts {A B : Type 0} (step : Result A Refusal) (f : A → Result B Refusal) (y : B) : Type 0 where
+  middle : A
+  first : step ≡ Ok middle
+  second : f middle ≡ Ok y
+
+chain_given : {A B : Type 0} (step : Result A Refusal) (f : A → Result B Refusal) (y : B) → (step >>= f) ≡ Ok y → Parts step f y
+chain_given (Ok x) f y h = record { middle = x; first = refl; second = h }
+chain_given (Err q) f y h = absurd (ok_is_not_error y q (sym h))
+
+-- the bytes of a file
+bytes_above : (b : Bool) (name bytes : List ℕ) → RefusesAbove (if b then Err (too_long name) else Ok bytes)
+bytes_above true name bytes r h = above_from (too_long name) (omega arith) r h
+bytes_above false name bytes r h = absurd (ok_is_not_error bytes r h)
+
+bytes_given : (b : Bool) (name bytes x : List ℕ) → ◌≡◌ {A = Result (List ℕ) Refusal} (if b then Err (too_long name) else Ok bytes) (Ok x) → x ≡ bytes
+bytes_given true name bytes x h = absurd (ok_is_not_error x (too_long name) (sym h))
+bytes_given false name bytes x h = cc
+
+-- the network of a text
+network_in_above : {F : Type 0} (u : Bool) (name : List ℕ) (read : Result NetData F) → RefusesAbove (if u then Err (not_built name) else if_faultless 3 name read)
+network_in_above true name read r h = above_from (not_built name) (omega arith) r h
+network_in_above false name read r h = faultless_above 3 name read (omega arith) r h
+
+network_in_given : {F : Type 0} (u : Bool) (name : List ℕ) (read : Result NetData F) (net : NetData) → (if u then Err (not_built name) else if_faultless 3 name read) ≡ Ok net → read ≡ Ok net
+network_in_given true name read net h = absurd (ok_is_not_error net (not_built name) (sym h))
+network_in_given false name read net h = given_faultless 3 name read net h
+
+network_above : (files : List (List ℕ × List ℕ)) (name : List ℕ) → RefusesAbove (network_read files name)
+unfolding network_read network_in
+network_above files name =
+    let bytes = bytes_of files name in
+    chain_above (file_read files name text_limit) (network_in name) (bytes_above (nat_lt text_limit (length bytes)) name bytes) (λ x. network_in_above (has_unbuilt x) name (network_of x))
+
+network_given : (files : List (List ℕ × List ℕ)) (name : List ℕ) (net : NetData) → network_read files name ≡ Ok net → network_of (bytes_of files name) ≡ Ok net
+unfolding network_read network_in
+network_given files name net h =
+    let bytes = bytes_of files name in
+    let p = chain_given (file_read files name text_limit) (network_in name) net h in
+    let e = bytes_given (nat_lt text_limit (length bytes)) name bytes p.middle p.first in
+    subst (λ b. network_of b ≡ Ok net) e (network_in_given (has_unbuilt p.middle) name (network_of p.middle) net p.second)
+
+-- ---- the certificate
+
+certificate_above : (files : List (List ℕ × List ℕ)) (wires : List Wire) (name : List ℕ) → RefusesAbove (certificate_read files wires name)
+unfolding certificate_read certificate_in
+certificate_above files wires name =
+    let bytes = bytes_of files name in
+    chain_above (file_read files name text_limit) (certificate_in wires name) (bytes_above (nat_lt text_limit (length bytes)) name bytes) (λ x. faultless_above 5 name (certificate_of wires x) (omega arith))
+
+certificate_given : (files : List (List ℕ × List ℕ)) (wires : List Wire) (name : List ℕ) (entries : List Bounds) → certificate_read files wires name ≡ Ok entries → certificate_of wires (bytes_of files name) ≡ Ok entries
+unfolding certificate_read certificate_in
+certificate_given files wires name entries h =
+    let bytes = bytes_of files name in
+    let p = chain_given (file_read files name text_limit) (certificate_in wires name) entries h in
+    let e = bytes_given (nat_lt text_limit (length bytes)) name bytes p.middle p.first in
+    subst (λ b. certificate_of wires b ≡ Ok entries) e (given_faultless 5 name (certificate_of wires p.middle) entries p.second)
+
+-- ---- acceptance
+
+none_rejected : (wires : List Wire) (k : Option ℕ) (x : ⊤) → if_none_rejected wires k ≡ Ok x → k ≡ None
+none_rejected wires None x h = refl
+none_rejected wires (Some k) x h = absurd (ok_is_not_error x (not_accepted (part_name wires k)) (sym h))
+
+rejected_above : (wires : List Wire) (k : Option ℕ) → RefusesAbove (if_none_rejected wires k)
+rejected_above wires None r h = absurd (ok_is_not_error tt r h)
+rejected_above wires (Some k) r h = above_from (not_accepted (part_name wires k)) (omega arith) r h
+
+acceptance_above : (wires : List Wire) (entries : List Bounds) → RefusesAbove (acceptance wires entries)
+unfolding acceptance
+acceptance_above wires entries = rejected_above wires (first_rejected wires entries)
+
+acceptance_given : (wires : List Wire) (entries : List Bounds) (x : ⊤) → acceptance wires entries ≡ Ok x → first_rejected wires entries ≡ None
+unfolding acceptance
+acceptance_given wires entries x h = none_rejected wires (first_rejected wires entries) x h
+
+-- ---- the headline
+
+certifies : (net cert : List ℕ) (network : NetData) (entries : List Bounds) → network_of net ≡ Ok network → certificate_of network.wires cert ≡ Ok entries → first_rejected network.wires entries ≡ None → IsCertified net cert
+certifies net cert network entries n c k =
+    let complete = certificate_of-complete network.wires cert entries c in
+    let accepts = accepts_from_none_rejected network.wires entries (all_are_smooth network.wires) complete k in
+    record {
+      network = network;
+      entries = entries;
+      is_network = n;
+      is_certificate = c;
+      accepted = accepts;
+      holds = certificates_hold network entries (network_of_valid net network n) accepts;
+    }
+
+-- where the answer of `check` has the status 0
+record IsDone (files : List (List ℕ × List ℕ)) (net cert : List ℕ) (o : Outcome) : Type 0 where
+  pub prints : o.out ≡ accepted_line
+  pub certified : IsCertified (bytes_of files net) (bytes_of files cert)
+
+check_done : (files : List (List ℕ × List ℕ)) (net cert : List ℕ) → (check_answer files net cert).status ≡ 0 → IsDone files net cert (check_answer files net cert)
+unfolding check_answer check_certificate check_entries
+check_done files net cert h =
+    let n = passed (network_read files net) (check_certificate files cert) (network_above files net) h in
+    let c = passed (certificate_read files n.given.wires cert) (check_entries n.given) (certificate_above files n.given.wires cert) n.done_after in
+    let a = passed (acceptance n.given.wires c.given) tell_accepted (acceptance_above n.given.wires c.given) c.done_after in
+    record {
+      prints = n.prints ∙ c.prints ∙ a.prints ∙ append-nil accepted_line;
+      certified = certifies (bytes_of files net) (bytes_of files cert) n.given c.given (network_given files net n.given n.gives) (certificate_given files n.given.wires cert c.given c.gives) (acceptance_given n.given.wires c.given a.given a.gives);
+    }
+
+-- the words `check NET CERT` ask for `check`, or are outside the grammar
+asked_done : (files : List (List ℕ × List ℕ)) (net cert : List ℕ) (b : Bool) → (answer_of_request files (if b then Some (check net cert) else None)).status ≡ 0 → IsDone files net cert (answer_of_request files (if b then Some (check net cert) else None))
+asked_done files net cert true h = check_done files net cert h
+asked_done files net cert false h = absurd (omega arith)
+
+words_done : (files : List (List ℕ × List ℕ)) (words : List (List ℕ)) (net cert : List ℕ) → words ≡ check_words net cert → (answer_of words files).status ≡ 0 → IsDone files net cert (answer_of words files)
+unfolding answer_of
+words_done files words net cert w h =
+    let P : List (List ℕ) → Type 0 = λ ws. (answer_of_request files (request_of ws)).status ≡ 0 → IsDone files net cert (answer_of_request files (request_of ws)) in
+    subst P (sym w) (asked_done files net cert (is_file_word net && is_file_word cert)) h
+
+-- status 0 for the words of `check`
+pub certifies_done : (files : List (List ℕ × List ℕ)) (words : List (List ℕ)) (net cert : List ℕ) (old new : Option (List ℕ)) → words ≡ check_words net cert → ((answer_of words files).status ≡ 0) × Appends old new (answer_of words files).out → Certifies files net cert old new
+certifies_done files words net cert old new w h =
+    let d = words_done files words net cert w h.0 in
+    (subst (Appends old new) d.prints h.1, d.certified)

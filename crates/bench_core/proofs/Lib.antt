@@ -1,0 +1,9 @@
+pub mod PartPlaces
+pub mod HeldWithin
+pub mod CertificateSteps
+pub mod StepLaws
+pub mod EndingLaws
+pub mod ClauseLaws
+pub mod CertificateLaws
+pub mod HeadlineLaws
+pub mod RejectedPlaces

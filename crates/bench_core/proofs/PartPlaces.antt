@@ -1,0 +1,34 @@
+-- Where the parts of a network stand.
+use Rattle.std.proofs.Common.{◌≡◌, ℕ, zero, suc, ◌+◌, ◌<◌, List, [], ◌∷◌, ◌++◌, map, length, get_or, append-nil, arith}
+use Rattle.net_model.specs.declared.wires.Role.{Role}
+use Rattle.net_model.specs.declared.wires.Role.TheVariants.{Value}
+use Rattle.net_model.specs.declared.wires.Part.{Part}
+use Rattle.net_model.specs.declared.wires.Wire.{Wire}
+use Rattle.net_model.specs.Wires.{no_part, parts_from, parts_of, roles_of, wire_at}
+use Rattle.cert_rules.specs.Acceptance.{part_at}
+use Rattle.bench_core.specs.PartNames.{part_name, role_suffix}
+
+-- parts of wires below a number stay below it where parts of one such wire are put in front
+below_in_front : (roles : List Role) (wire n : ℕ) (rest : List Part) (k : ℕ) → wire < n → ((j : ℕ) → j < length rest → (get_or rest j no_part).wire.0 < n) → k < length (map (λ r. record { wire = record { 0 = wire }; role = r }) roles ++ rest) → (get_or (map (λ r. record { wire = record { 0 = wire }; role = r }) roles ++ rest) k no_part).wire.0 < n
+below_in_front [] wire n rest k low below there = below k there
+below_in_front (r ∷ roles) wire n rest zero low below there = low
+below_in_front (r ∷ roles) wire n rest (suc k) low below there =
+    below_in_front roles wire n rest k low below (omega arith)
+
+wire_of_part-below : (wires : List Wire) (i n : ℕ) (k : ℕ) → i + length wires ≡ n → k < length (parts_from i wires) → (get_or (parts_from i wires) k no_part).wire.0 < n
+wire_of_part-below [] i n k e there = absurd (omega arith)
+wire_of_part-below (w ∷ wires) i n k e there =
+    below_in_front (roles_of w.item) i n (parts_from (i + 1) wires) k (omega arith) (λ j h. wire_of_part-below wires (i + 1) n j (omega arith) h) there
+
+-- each part is of one of the wires
+pub part_at-below : (wires : List Wire) (k : ℕ) → k < length (parts_of wires) → (part_at wires k).wire.0 < length wires
+part_at-below wires k there = wire_of_part-below wires 0 (length wires) k (omega arith) there
+
+suffix_is_empty : (role : Role) (name : List ℕ) → name ++ role_suffix role ≡ name
+suffix_is_empty Value name = append-nil name
+
+-- a part is named as its wire is
+pub part_name-wire : (wires : List Wire) (k : ℕ) → part_name wires k ≡ (wire_at wires (part_at wires k).wire.0).name
+part_name-wire wires k = suffix_is_empty (part_at wires k).role (wire_at wires (part_at wires k).wire.0).name
+
+pub ruleset part_steps = (part_at-below, part_name-wire)

@@ -1,0 +1,66 @@
+-- What `check NET CERT` does, in the order of its refusals.
+use Rattle.std.specs.Prelude.{ℕ, Bool, List, [], ◌∷◌, ◌++◌, length, nat_lt, Option, Some, None, Result, Ok, Err, codes, if◌then◌else◌, ⊤}
+use Rattle.fx_io.specs.Outside.{bytes_of}
+use Rattle.net_model.specs.declared.wires.Wire.{Wire}
+use Rattle.net_model.specs.Wires.{NetData}
+use Rattle.cert_rules.specs.declared.bounds.Bounds.{Bounds}
+use Rattle.cert_rules.specs.Acceptance.{first_rejected}
+use Rattle.net_model.specs.Text.{network_of, has_unbuilt}
+use Rattle.bench_core.specs.PartNames.{part_name}
+use Rattle.bench_core.specs.CertificateText.{certificate_of}
+use Rattle.bench_core.specs.Outcomes.{Outcome, Refusal, done, printed, after, reading, ◌>>=◌}
+use Rattle.bench_core.specs.RefusalTexts.{too_long, not_built, refused_text, not_accepted}
+
+-- the most bytes of a network's text and of a certificate's text
+abbrev pub text_limit : ℕ
+text_limit = 1048576
+
+-- the bytes of a file, which has at most so many
+abbrev pub file_read : List (List ℕ × List ℕ) → List ℕ → ℕ → Result (List ℕ) Refusal
+file_read files name limit = if nat_lt limit (length (bytes_of files name)) then Err (too_long name) else Ok (bytes_of files name)
+
+-- what a file's text means, where it has no fault
+abbrev pub if_faultless : {T F : Type 0} → ℕ → List ℕ → Result T F → Result T Refusal
+if_faultless status name (Ok x) = Ok x
+if_faultless status name (Err fault) = Err (refused_text status name)
+
+-- the network of a file's bytes
+unfoldable pub network_in : List ℕ → List ℕ → Result NetData Refusal
+network_in name bytes = if has_unbuilt bytes then Err (not_built name) else if_faultless 3 name (network_of bytes)
+
+-- the network of a file
+unfoldable pub network_read : List (List ℕ × List ℕ) → List ℕ → Result NetData Refusal
+network_read files name = file_read files name text_limit >>= network_in name
+
+-- the certificate of a file's bytes, for the wires of a network
+unfoldable pub certificate_in : List Wire → List ℕ → List ℕ → Result (List Bounds) Refusal
+certificate_in wires name bytes = if_faultless 5 name (certificate_of wires bytes)
+
+-- the certificate of a file
+unfoldable pub certificate_read : List (List ℕ × List ℕ) → List Wire → List ℕ → Result (List Bounds) Refusal
+certificate_read files wires name = file_read files name text_limit >>= certificate_in wires name
+
+-- a certificate is accepted where no part is rejected
+abbrev pub if_none_rejected : List Wire → Option ℕ → Result ⊤ Refusal
+if_none_rejected wires None = Ok tt
+if_none_rejected wires (Some k) = Err (not_accepted (part_name wires k))
+
+unfoldable pub acceptance : List Wire → List Bounds → Result ⊤ Refusal
+acceptance wires entries = if_none_rejected wires (first_rejected wires entries)
+
+-- the line that tells that a certificate is accepted
+abbrev pub accepted_line : List ℕ
+accepted_line = codes "accepted" ++ 10 ∷ []
+
+-- the steps, the last first
+abbrev pub tell_accepted : ⊤ → Outcome
+tell_accepted _ = printed accepted_line done
+
+unfoldable pub check_entries : NetData → List Bounds → Outcome
+check_entries network entries = after (acceptance network.wires entries) tell_accepted
+
+unfoldable pub check_certificate : List (List ℕ × List ℕ) → List ℕ → NetData → Outcome
+check_certificate files cert network = reading cert (certificate_read files network.wires cert) (check_entries network)
+
+unfoldable pub check_answer : List (List ℕ × List ℕ) → List ℕ → List ℕ → Outcome
+check_answer files net cert = reading net (network_read files net) (check_certificate files cert)

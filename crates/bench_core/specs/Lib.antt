@@ -1,0 +1,12 @@
+pub mod PartNames
+pub mod CertificateText
+pub mod CertificateReading
+pub mod Outcomes
+pub mod RefusalTexts
+pub mod Requests
+pub mod Statuses
+pub mod HowItEnds
+pub mod CheckAnswer
+pub mod WholeAnswer
+pub mod Headline
+pub mod Clauses

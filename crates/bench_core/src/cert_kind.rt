@@ -1,0 +1,61 @@
+ghost use Rattle.std.specs.Prelude.{◌≡◌};
+ghost use Rattle.bench_core.specs.declared.cert_kind.CertError.TheVariants.{Fault, OutOfMemory};
+
+use std::alloc::{AllocError, AllocFailed};
+
+/// A fault of a certificate's text, in the order in which one line is tested.
+#[derive(Clone, Copy, Debug, PartialEq, Eq)]
+pub enum CertKind {
+    /// The first line with words isn't `cert 1`.
+    NoHead,
+    /// The first word isn't `part`, or there aren't five words.
+    BadLine,
+    /// The name isn't that of the next part, or all parts were named.
+    WrongPart,
+    /// A word in the place of a number isn't one, a bound is outside -2^62 to 2^62, or an error outside 0 to
+    /// 2^62.
+    BadNumber,
+    /// The lower end of the range is above the upper one.
+    EmptyRange,
+    /// The text ends before the last part.
+    Missing,
+}
+
+/// A fault of a certificate's text and its line, from 1; of a missing part the number of lines.
+#[derive(Clone, Copy, Debug, PartialEq, Eq)]
+pub struct CertFault {
+    pub line: u32,
+    pub kind: CertKind,
+}
+
+/// Why a text gives no certificate.
+#[derive(Clone, Copy, Debug, PartialEq, Eq)]
+pub enum CertError {
+    /// The first fault of the text.
+    Fault(CertFault),
+    OutOfMemory,
+}
+
+impl From<CertFault> for CertError {
+    ghost from_gives = { λ fault error. error ≡ Fault fault };
+
+    fn from(fault: CertFault) -> CertError {
+        CertError::Fault(fault)
+    }
+}
+
+impl From<AllocError> for CertError {
+    ghost from_gives = { λ _ error. error ≡ OutOfMemory };
+
+    fn from(_error: AllocError) -> CertError {
+        CertError::OutOfMemory
+    }
+}
+
+impl<T: Drop> From<AllocFailed<T>> for CertError {
+    ghost from_gives = { λ _ error. error ≡ OutOfMemory };
+
+    fn from(_error: AllocFailed<T>) -> CertError {
+        CertError::OutOfMemory
+    }
+}

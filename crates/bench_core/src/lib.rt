@@ -1,0 +1,21 @@
+// The program's one call: words, files and sinks in, a status out. What it answers is one
+// definition; its contract says how far the call keeps to it where the outside fails.
+#![tactic(auto)]
+
+mod cert_kind;
+mod cert_line;
+mod cert_reader;
+mod checking;
+mod commands;
+mod endings;
+mod notice;
+mod part_naming;
+mod refusals;
+mod steps;
+#[cfg(test)]
+mod tests;
+mod top;
+mod word_list;
+
+pub use top::bench;
+pub use word_list::Words;

@@ -1,0 +1,141 @@
+use crate::{Words, bench};
+use fx_io::{MemShelf, MemSink, SteadyShelf, SteadySink, Stored};
+use std::alloc::{AllocError, Global};
+use std::test::Fail;
+
+const NET: &str =
+    "net 1\nin a s16 0 1000\nin b s16.4 -160 160\nwire c s16 = Mfx_ConvertP2_s16_s16 b\nwire s s16 = Mfx_Add_s16s16_s16 a c\nout s\n";
+
+const CERT: &str =
+    "cert 1\npart a 0 1000 0\npart b -160 160 0\npart c -10 10 65536\npart s -10 1010 65536\n";
+
+const SMALL_ERROR: &str =
+    "cert 1\npart a 0 1000 0\npart b -160 160 0\npart c -10 10 65535\npart s -10 1010 65536\n";
+
+const SMALL_RANGE: &str =
+    "cert 1\npart a 0 1000 0\npart b -160 160 0\npart c -10 10 65536\npart s -10 1009 65536\n";
+
+const SHORT: &str = "cert 1\npart a 0 1000 0\n";
+
+const PRODUCT: &str = "net 1\nin a s16 0 1000\nwire s s16 = Mfx_Mul_s16s16_s16 a a\nout s\n";
+
+const NO_OUTPUT: &str =
+    "net 1\nin a s16 0 1000\nin b s16.4 -160 160\nwire c s16 = Mfx_ConvertP2_s16_s16 b\nwire s s16 = Mfx_Add_s16s16_s16 a c\n";
+
+const USAGE: &str =
+    "usage: bench check NET CERT | run NET REC | audit NET CERT REC | propose NET | gen SEED ROWS\n";
+
+fn stored(alloc: Global, name: &str, text: &str) -> Result<Stored, AllocError> {
+    let name = String::from_str(alloc, name)?;
+    Ok(Stored::new(name, Vec::from_slice(alloc, text.as_bytes())?))
+}
+
+fn files(alloc: Global) -> Result<Vec<Stored>, AllocError> {
+    let mut files = Vec::new(alloc);
+    for (name, text) in [
+        ("A", NET),
+        ("AC", CERT),
+        ("error", SMALL_ERROR),
+        ("range", SMALL_RANGE),
+        ("short", SHORT),
+        ("product", PRODUCT),
+        ("no_output", NO_OUTPUT),
+    ] {
+        files.push(stored(alloc, name, text)?)?;
+    }
+    Ok(files)
+}
+
+fn words(alloc: Global, line: &[&str]) -> Result<Words, AllocError> {
+    let mut words = Words::new(alloc);
+    for word in line {
+        words.add(word)?;
+    }
+    Ok(words)
+}
+
+#[test]
+fn answers_in_the_order_of_refusals(rt: HostRuntime) -> Result<(), Fail> {
+    let alloc = rt.alloc();
+    let mut shelf = SteadyShelf::new(alloc, files(alloc)?);
+    for (line, status, out, err) in [
+        (["check", "A", "AC"].as_slice(), 0, "accepted\n", ""),
+        (
+            ["check", "A", "error"].as_slice(),
+            6,
+            "",
+            "not accepted: c\n",
+        ),
+        (
+            ["check", "A", "range"].as_slice(),
+            6,
+            "",
+            "not accepted: s\n",
+        ),
+        (
+            ["check", "A", "short"].as_slice(),
+            5,
+            "",
+            "short: refused\n",
+        ),
+        (
+            ["check", "product", "AC"].as_slice(),
+            3,
+            "",
+            "product: not built\n",
+        ),
+        (
+            ["check", "no_output", "AC"].as_slice(),
+            3,
+            "",
+            "no_output: refused\n",
+        ),
+        (["check", "A"].as_slice(), 1, "", USAGE),
+        (["--help"].as_slice(), 1, "", USAGE),
+        (["run", "-x", "y"].as_slice(), 1, "", USAGE),
+        ([].as_slice(), 1, "", USAGE),
+    ] {
+        let mut printed = SteadySink::new(alloc);
+        let mut said = SteadySink::new(alloc);
+        let words = words(alloc, line)?;
+        let answer = bench(alloc, &words, &mut shelf, &mut printed, &mut said);
+        assert_eq!(rt; answer, status, "{err}");
+        assert_eq!(rt; printed.written(), out.as_bytes(), "{err}");
+        assert_eq!(rt; said.written(), err.as_bytes(), "{err}");
+    }
+    Ok(())
+}
+
+#[test]
+fn answers_where_devices_fail(rt: HostRuntime) -> Result<(), Fail> {
+    let alloc = rt.alloc();
+    let words = words(alloc, ["check", "A", "AC"].as_slice())?;
+    // A start is call 0, its reads 1 and 2; the second file is started by call 3.
+    for (call, err) in [
+        (0u64, "cannot read A\n"),
+        (1u64, "cannot read A\n"),
+        (3u64, "cannot read AC\n"),
+    ] {
+        let failing = vec![in alloc; call]?;
+        let mut shelf = MemShelf::new(alloc, files(alloc)?, failing);
+        let mut printed = SteadySink::new(alloc);
+        let mut said = SteadySink::new(alloc);
+        assert_eq!(rt;
+            bench(alloc, &words, &mut shelf, &mut printed, &mut said),
+            2,
+            "{err}"
+        );
+        assert!(rt; printed.written().is_empty(), "{err}");
+        assert_eq!(rt; said.written(), err.as_bytes(), "{err}");
+    }
+    let mut shelf = MemShelf::new(alloc, files(alloc)?, Vec::new(alloc));
+    let mut printed = MemSink::new(alloc, vec![in alloc; 0u64]?);
+    let mut said = MemSink::new(alloc, Vec::new(alloc));
+    assert_eq!(rt;
+        bench(alloc, &words, &mut shelf, &mut printed, &mut said),
+        7
+    );
+    assert_eq!(rt; printed.written(), b"acce".as_slice());
+    assert_eq!(rt; said.written(), b"cannot write\n".as_slice());
+    Ok(())
+}
