@@ -14,7 +14,8 @@ use Rattle.bench_core.specs.PartNames.{part_name}
 use Rattle.bench_core.specs.CertificateText.{certificate_of}
 use Rattle.net_model.proofs.ReadingLaw.{network_of_valid}
 use Rattle.bench_core.proofs.CertificateLaws.{certificate_of-complete}
-use Rattle.bench_core.specs.Outcomes.{Outcome, Refusal, after, reading, refused, ◌>>=◌}
+use Rattle.bench_core.specs.Outcomes.{Outcome, Refusal, after, reading, refused}
+use Rattle.net_model.specs.Forms.{◌>>=◌}
 use Rattle.bench_core.specs.RefusalTexts.{usage, too_long, not_built, refused_text, not_accepted}
 use Rattle.bench_core.specs.Requests.{Request, check, is_file_word, check_words, request_of}
 use Rattle.bench_core.specs.CheckAnswer.{if_faultless, file_read, network_in, network_read, certificate_in, certificate_read, if_none_rejected, acceptance, accepted_line, tell_accepted, check_entries, check_certificate, check_answer, text_limit}

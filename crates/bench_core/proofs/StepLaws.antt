@@ -2,7 +2,8 @@
 use Rattle.std.proofs.Common.{◌≡◌, ℕ, List, Result, Ok, Err, refl, sym, ◌∙◌, ap, subst}
 use Rattle.bench_core.specs.declared.endings.Ending.{Ending}
 use Rattle.bench_core.specs.declared.endings.Ending.TheVariants.{Usage, Refused, CannotRead, CannotWrite, OutOfMemory}
-use Rattle.bench_core.specs.Outcomes.{Refusal, ◌>>=◌}
+use Rattle.bench_core.specs.Outcomes.{Refusal}
+use Rattle.net_model.specs.Forms.{◌>>=◌}
 use Rattle.bench_core.specs.HowItEnds.{Gives, Makes, RefusesWith, StopsAt, StopsInside}
 
 -- two refusals of one status and one text are one

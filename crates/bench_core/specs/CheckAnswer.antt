@@ -8,7 +8,8 @@ use Rattle.cert_rules.specs.Acceptance.{first_rejected}
 use Rattle.net_model.specs.Text.{network_of, has_unbuilt}
 use Rattle.bench_core.specs.PartNames.{part_name}
 use Rattle.bench_core.specs.CertificateText.{certificate_of}
-use Rattle.bench_core.specs.Outcomes.{Outcome, Refusal, done, printed, after, reading, ◌>>=◌}
+use Rattle.bench_core.specs.Outcomes.{Outcome, Refusal, done, printed, after, reading}
+use Rattle.net_model.specs.Forms.{◌>>=◌}
 use Rattle.bench_core.specs.RefusalTexts.{too_long, not_built, refused_text, not_accepted}
 
 -- the most bytes of a network's text and of a certificate's text

@@ -41,9 +41,3 @@ after (Err r) next = refused r
 -- a step over a file, and what comes after it
 abbrev pub reading : {T : Type 0} → List ℕ → Result T Refusal → (T → Outcome) → Outcome
 reading name step next = reached name (after step next)
-
--- a step of two parts: the first refusal, or what the second part gives
-infixl 10 ◌>>=◌
-abbrev pub ◌>>=◌ : {A B : Type 0} → Result A Refusal → (A → Result B Refusal) → Result B Refusal
-Ok x >>= f = f x
-Err r >>= f = Err r
