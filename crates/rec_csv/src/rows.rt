@@ -1,0 +1,51 @@
+// The values of a row.
+ghost use Rattle.std.specs.Prelude.{◌≡◌, length, IfErr, OnOk, Ok};
+ghost use Rattle.csv.specs.Records.{fields_of};
+ghost use Rattle.net_model.specs.Validity.{kind_holds};
+ghost use Rattle.rec_csv.specs.Rows.{Leaves, Tells, good_values, value_of, values_of};
+
+use crate::columns::Column;
+use crate::faults::RowFault;
+use crate::line_fields::{field_in, trimmed};
+use csv::ByteRecord;
+use net_model::Kind;
+use text_words::number;
+
+/// Fills in the values of the columns.
+#[tactic(auto, using(crate::proofs::RowFacts::values_step, crate::proofs::RowFacts::values_fault, crate::proofs::RowFacts::values_end, crate::proofs::RowFacts::good_step, crate::proofs::RowFacts::good_fault, crate::proofs::RowFacts::tells, crate::proofs::RowFacts::leaves))]
+pub fn fill(columns: &[Column], row: &ByteRecord, values: &mut [i64]) -> Result<(), RowFault>
+    requires { length values.old ≡ length columns.now }
+    ensures values { OnOk result (values_of columns.now (fields_of row.now) ≡ Ok values.new) }
+    ensures fault { IfErr result (Tells (values_of columns.now (fields_of row.now))) }
+    ensures before { IfErr result (Leaves (good_values columns.now (fields_of row.now)) values.new) }
+{
+    'columns: for i in 0..columns.len() {
+        let column = columns[i];
+        match value_of(column, field_in(row, column.place)) {
+            Ok(value) => values[i] = value,
+            Err(fault) => return Err(fault),
+        }
+    }
+    Ok(())
+}
+
+#[tactic(auto, using(crate::proofs::HeldValues::value_of_held))]
+fn value_of(column: Column, field: &[u8]) -> Result<i64, RowFault>
+    ensures { result ≡ value_of column field.now }
+{
+    let value = number(trimmed(field)).ok_or(RowFault::BadNumber(column.wire))?;
+    if kind_holds(column.kind, value) {
+        Ok(value)
+    } else {
+        Err(RowFault::OutOfType(column.wire))
+    }
+}
+
+fn kind_holds(kind: Kind, value: i64) -> bool
+    ensures { result ≡ kind_holds kind value }
+{
+    match kind {
+        Kind::Num(ty, _) => ty.holds(value),
+        Kind::Truth => 0 <= value && value <= 1,
+    }
+}
