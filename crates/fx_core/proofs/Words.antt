@@ -176,3 +176,10 @@ above_same n (pos k) r rest one h i split test =
 -- and so the relation
 pub above_bounds : (n d r : ℤ) → pos 1 ≤ℤ d → r ≡ least_quotient_above n d → IsLeastQuotientAbove n d r
 above_bounds n d r one value = subst (IsLeastQuotientAbove n d) (sym value) (least_quotient_above_bounds n d one)
+
+-- a quotient by a power of two toward zero, of a word without its last digits
+pub quotient_by_power : (m : Mode) (n d r : ℤ) (k : ℕ) → m ≡ Zero → d ≡ power k → FitsSigned w128 n → FitsSigned w128 r → r ≡ int_div (word n) (power k) → word r ≡ rounded m n d
+unfolding rounded
+quotient_by_power m n d r k toward same f g is =
+    let plain = rw (to_z-of_z w128 n f) at is in
+    subst (λ (a : Mode). word r ≡ rounded a n d) (sym toward) (to_z-of_z w128 r g ∙ plain ∙ ap (int_div n) (sym same))

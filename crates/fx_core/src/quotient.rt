@@ -1,7 +1,9 @@
 // Quotients rounded to whole numbers.
 
-ghost use Rattle.std.specs.Prelude.{◌≡◌, ℤ, pos, negsuc, ◌^◌, ◌<◌, ◌≤◌, ◌≤ℤ◌, unsigned_abs};
+ghost use Rattle.std.specs.Prelude.{◌≡◌, ℤ, pos, negsuc, neg_ℤ, ◌^◌, ◌<◌, ◌≤◌, ◌≤ℤ◌, int_div, unsigned_abs, if◌then◌else◌};
 ghost use Rattle.fx_core.specs.Rounding.{IsLeastQuotientAbove, Rounds, ShiftRounds, least_quotient_above, power, rounded, shifted_rounded};
+
+use num_traits::cast;
 
 /// How a quotient is rounded to a whole number.
 #[derive(Clone, Copy, Debug, PartialEq, Eq)]
@@ -60,12 +62,46 @@ pub fn shift_round(n: i128, e: i32, m: Mode) -> i128
     ensures value { result ≡ shifted_rounded m n e }
     ensures relation { ShiftRounds m n e result }
 {
-    let factor = power_of_two(e.unsigned_abs());
+    let places = e.unsigned_abs();
+    let factor = power_of_two(places);
     if e >= 0 {
         n * factor
     } else {
+        round_by_power(n, factor, places, m)
+    }
+}
+
+// `n` over a power of two, rounded to a whole number. Toward zero a shift does it, in a fraction of a division's time.
+fn round_by_power(n: i128, factor: i128, places: u32, m: Mode) -> i128
+    requires size { unsigned_abs n ≤ 2 ^ 90 }
+    requires few { places < 32 }
+    requires power { factor ≡ power places }
+    ensures { result ≡ rounded m n factor }
+{
+    if m == Mode::Zero {
+        without_digits(n, places)
+    } else {
         round(n, factor, m)
     }
+}
+
+// `n` without its last `k` binary digits: its quotient by a power of two, rounded toward zero.
+fn without_digits(n: i128, k: u32) -> i128
+    requires size { unsigned_abs n ≤ 2 ^ 90 }
+    requires few { k < 32 }
+    ensures { result ≡ int_div n (power k) }
+{
+    let size = n.unsigned_abs() >> k;
+    signed(n < 0, size)
+}
+
+// The number of this sign and this size.
+fn signed(negative: bool, size: u128) -> i128
+    requires { size ≤ 2 ^ 90 }
+    ensures { result ≡ (if negative then neg_ℤ (pos size) else pos size) }
+{
+    let number: i128 = cast(size).unwrap();
+    if negative { -number } else { number }
 }
 
 fn power_of_two(k: u32) -> i128
