@@ -1,4 +1,5 @@
 pub mod Cuts
+pub mod Feeds
 pub mod Held
 pub mod Digits
 mod Examples

@@ -4,6 +4,8 @@ ghost use Rattle.std.specs.List.{prefix_len};
 ghost use Rattle.std.specs.Str.Lines.{strip_carriage_return};
 ghost use Rattle.text_words.specs.Lines.{is_line_feed, lines_from, lines_of, without_mark};
 
+use memchr::memchr;
+
 /// The text without the byte-order mark that some editors put at its very start. Call it once, and then `next_line`.
 #[tactic(auto, unfolding(crate::specs::Lines::lines_of))]
 pub fn without_mark(text: &[u8]) -> &[u8]
@@ -20,6 +22,7 @@ pub fn without_mark(text: &[u8]) -> &[u8]
 /// The next line of what is left of a text, without its line feed and one carriage return before that, and what is
 /// left after it. `None` where nothing is left.
 #[tactic(auto, using(crate::proofs::Cuts::line_steps))]
+#[inline(always)]
 pub fn next_line(rest: &[u8]) -> Option<(&[u8], &[u8])>
     ensures lines { MatchOption result (lines_from rest.now ≡ [])
         (λ cut. lines_from rest.now ≡ cut.0.now ∷ lines_from cut.1.now) }
@@ -33,11 +36,15 @@ pub fn next_line(rest: &[u8]) -> Option<(&[u8], &[u8])>
 }
 
 // How many bytes stand before the first line feed.
+#[tactic(auto, using(crate::proofs::Feeds::line_len_found, crate::proofs::Feeds::line_len_whole))]
 fn line_len(bytes: &[u8]) -> usize
     ensures value { result ≡ prefix_len (λ byte. not (is_line_feed byte)) bytes.now }
     ensures within { result ≤ length bytes.now }
 {
-    bytes.iter().take_while(|byte| **byte != b'\n').count()
+    match memchr(b'\n', bytes) {
+        Some(place) => place,
+        None => bytes.len(),
+    }
 }
 
 // All bytes but the first, if there is one.

@@ -1,10 +1,11 @@
 // Reads a decimal number of any length.
-ghost use Rattle.std.specs.Prelude.{◌≡◌, ◌-◌, ◌^◌, min, pos, neg_ℤ, option_map};
+ghost use Rattle.std.specs.Prelude.{◌≡◌, ◌+◌, ◌-◌, ◌*◌, ◌^◌, ◌<◌, min, pos, neg_ℤ, option_map};
 ghost use Rattle.text_words.specs.Numbers.{held, natural_of, number_of};
 
 /// The number that the word stands for: `+`, `-` or no sign, and then decimal digits, of which leading zeros are let
 /// in. A number that 64 signed bits can't hold comes out as the nearest that they can. `None` where it isn't a number.
 #[tactic(auto, unfolding(crate::specs::Numbers::number_of))]
+#[inline(always)]
 pub fn number(word: &[u8]) -> Option<i64>
     ensures { result ≡ option_map held (number_of word.now) }
 {
@@ -42,11 +43,21 @@ fn natural(digits: &[u8]) -> Option<u64>
         if !digit.is_ascii_digit() {
             return None;
         }
-        total = total
-            .saturating_mul(10)
-            .saturating_add(u64::from(*digit - b'0'));
+        total = with_digit(total, *digit - b'0');
     }
     Some(total)
+}
+
+// The number with one digit more, or the greatest of 64 bits where it is greater. Short numbers take the quick way.
+fn with_digit(total: u64, digit: u8) -> u64
+    requires { digit < 10 }
+    ensures { result ≡ min (2 ^ 64 - 1) (total * 10 + digit) }
+{
+    if total < 1 << 60 {
+        total * 10 + u64::from(digit)
+    } else {
+        total.saturating_mul(10).saturating_add(u64::from(digit))
+    }
 }
 
 #[tactic(auto, unfolding(crate::specs::Numbers::held))]
