@@ -1,0 +1,4 @@
+pub mod Operations
+pub mod Formulas
+pub mod Calls
+pub mod Integers
