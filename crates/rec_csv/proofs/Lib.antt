@@ -1,3 +1,7 @@
+pub mod ApartColumns
 pub mod ColumnFacts
 pub mod HeldValues
+pub mod PlainLines
+pub mod SlotFacts
+pub mod WalkFacts
 pub mod RowFacts

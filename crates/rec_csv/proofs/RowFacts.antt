@@ -1,13 +1,12 @@
 -- The values of a row one by one.
-use Rattle.std.proofs.Common.{◌≡◌, ℕ, ◌+◌, ◌≤◌, ◌<◌, List, [], ◌∷◌, ◌++◌, length, take, drop, get_or, slice_set, refl, sym, ap, ◌∙◌, arith, append_assoc, append-nil, drop_of_length-le, Result, Ok, Err, ℤ}
+use Rattle.std.proofs.Common.{◌≡◌, ℕ, ◌+◌, ◌≤◌, ◌<◌, List, [], ◌∷◌, ◌++◌, length, take, drop, slice_set, refl, sym, ap, ◌∙◌, arith, append_assoc, append-nil, drop_of_length-le, Result, Ok, Err, ℤ}
 use Rattle.std.proofs.lemmas.List.{drop_more, length-take, take_all, take_more_set, length-set}
-use Rattle.fx_core.specs.declared.word_type.Ty.TheVariants.{U8}
-use Rattle.net_model.specs.declared.wires.Kind.TheVariants.{Num}
 use Rattle.rec_csv.specs.declared.columns.Column.{Column}
 use Rattle.rec_csv.specs.declared.faults.RowFault.{RowFault}
 use Rattle.rec_csv.specs.declared.faults.RowFault.TheVariants.{BadLine, BadWidth, BadNumber, OutOfType, OutOfMemory}
 use Rattle.rec_csv.specs.Fields.{field_in}
-use Rattle.rec_csv.specs.Headers.{◌>>=◌}
+use Rattle.net_model.specs.Forms.{◌>>=◌}
+use Rattle.rec_csv.specs.Slots.{column_at, no_column}
 use Rattle.rec_csv.specs.Rows.{Leaves, Tells, values_of, value_of, good_values}
 
 -- those values behind others
@@ -15,24 +14,20 @@ abbrev pub prepended : List ℤ → Result (List ℤ) RowFault → Result (List 
 prepended before (Ok values) = Ok (before ++ values)
 prepended before (Err fault) = Err fault
 
--- the column that is read where there is none
-abbrev pub none : Column
-none = record { place = 0; wire = record { 0 = 0 }; kind = Num U8 0 }
-
 -- one more value
 more_ok : (before : List ℤ) (value : ℤ) (rest : Result (List ℤ) RowFault) → prepended before (rest >>= (λ values. Ok (value ∷ values))) ≡ prepended (before ++ value ∷ []) rest
 more_ok before value (Ok values) = ap (λ l. Ok l) (sym (append_assoc before (value ∷ []) values))
 more_ok before value (Err fault) = refl
 
 -- the value of column i stands behind those before it
-pub values_step : (columns : List Column) (fields : List (List ℕ)) (i : ℕ) (before : List ℤ) (value : ℤ) → i < length columns → value_of (get_or columns i none) (field_in fields (get_or columns i none).place) ≡ Ok value → prepended before (values_of (drop i columns) fields) ≡ prepended (before ++ value ∷ []) (values_of (drop (i + 1) columns) fields)
+pub values_step : (columns : List Column) (fields : List (List ℕ)) (i : ℕ) (before : List ℤ) (value : ℤ) → i < length columns → value_of (column_at columns i) (field_in fields (column_at columns i).place) ≡ Ok value → prepended before (values_of (drop i columns) fields) ≡ prepended (before ++ value ∷ []) (values_of (drop (i + 1) columns) fields)
 unfolding values_of
-values_step columns fields i before value lt is = rw (drop_more columns i none lt, is) (more_ok before value (values_of (drop (i + 1) columns) fields))
+values_step columns fields i before value lt is = rw (drop_more columns i no_column lt, is) (more_ok before value (values_of (drop (i + 1) columns) fields))
 
 -- the fault of column i is that of all
-pub values_fault : (columns : List Column) (fields : List (List ℕ)) (i : ℕ) (before : List ℤ) (fault : RowFault) → i < length columns → value_of (get_or columns i none) (field_in fields (get_or columns i none).place) ≡ Err fault → prepended before (values_of (drop i columns) fields) ≡ Err fault
+pub values_fault : (columns : List Column) (fields : List (List ℕ)) (i : ℕ) (before : List ℤ) (fault : RowFault) → i < length columns → value_of (column_at columns i) (field_in fields (column_at columns i).place) ≡ Err fault → prepended before (values_of (drop i columns) fields) ≡ Err fault
 unfolding values_of
-values_fault columns fields i before fault lt is = rw (drop_more columns i none lt, is) refl
+values_fault columns fields i before fault lt is = rw (drop_more columns i no_column lt, is) refl
 
 -- behind the last column stands nothing
 pub values_end : (columns : List Column) (fields : List (List ℕ)) (i : ℕ) (values : List ℤ) → length values ≡ length columns → length columns ≤ i → prepended (take i values) (values_of (drop i columns) fields) ≡ Ok values
@@ -42,14 +37,14 @@ values_end columns fields i values same le =
     rw (drop_of_length-le columns le, append-nil (take i values)) (ap (λ l. Ok l) (take_all i values past))
 
 -- a good value of column i stands behind those before it
-pub good_step : (columns : List Column) (fields : List (List ℕ)) (i : ℕ) (before : List ℤ) (value : ℤ) → i < length columns → value_of (get_or columns i none) (field_in fields (get_or columns i none).place) ≡ Ok value → before ++ good_values (drop i columns) fields ≡ (before ++ value ∷ []) ++ good_values (drop (i + 1) columns) fields
+pub good_step : (columns : List Column) (fields : List (List ℕ)) (i : ℕ) (before : List ℤ) (value : ℤ) → i < length columns → value_of (column_at columns i) (field_in fields (column_at columns i).place) ≡ Ok value → before ++ good_values (drop i columns) fields ≡ (before ++ value ∷ []) ++ good_values (drop (i + 1) columns) fields
 unfolding good_values
-good_step columns fields i before value lt is = rw (drop_more columns i none lt, is) (sym (append_assoc before (value ∷ []) (good_values (drop (i + 1) columns) fields)))
+good_step columns fields i before value lt is = rw (drop_more columns i no_column lt, is) (sym (append_assoc before (value ∷ []) (good_values (drop (i + 1) columns) fields)))
 
 -- at a fault of column i those before it are all
-pub good_fault : (columns : List Column) (fields : List (List ℕ)) (i : ℕ) (before : List ℤ) (fault : RowFault) → i < length columns → value_of (get_or columns i none) (field_in fields (get_or columns i none).place) ≡ Err fault → before ++ good_values (drop i columns) fields ≡ before
+pub good_fault : (columns : List Column) (fields : List (List ℕ)) (i : ℕ) (before : List ℤ) (fault : RowFault) → i < length columns → value_of (column_at columns i) (field_in fields (column_at columns i).place) ≡ Err fault → before ++ good_values (drop i columns) fields ≡ before
 unfolding good_values
-good_fault columns fields i before fault lt is = rw (drop_more columns i none lt, is) (append-nil before)
+good_fault columns fields i before fault lt is = rw (drop_more columns i no_column lt, is) (append-nil before)
 
 -- a fault that is said is told
 pub tells : (said : Result (List ℤ) RowFault) (fault : RowFault) → said ≡ Err fault → Tells said fault
@@ -80,7 +75,7 @@ Kept columns fields values i = (length values ≡ length columns)
     × (good_values columns fields ≡ take i values ++ good_values (drop i columns) fields)
 
 -- one more value keeps it
-pub kept : (columns : List Column) (fields : List (List ℕ)) (values : List ℤ) (i : ℕ) (z : ℤ) → i < length columns → value_of (get_or columns i none) (field_in fields (get_or columns i none).place) ≡ Ok z → Kept columns fields values i → Kept columns fields (slice_set values i z) (i + 1)
+pub kept : (columns : List Column) (fields : List (List ℕ)) (values : List ℤ) (i : ℕ) (z : ℤ) → i < length columns → value_of (column_at columns i) (field_in fields (column_at columns i).place) ≡ Ok z → Kept columns fields values i → Kept columns fields (slice_set values i z) (i + 1)
 kept columns fields values i z lt is inv =
     let e = take_more_set values i z (omega (arith, lt, inv.0)) in (
       length-set values i z ∙ inv.0,

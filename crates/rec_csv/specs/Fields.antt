@@ -1,5 +1,5 @@
 -- The fields of a recording's line.
-use Rattle.std.specs.Prelude.{ℕ, Bool, ⊤, List, [], Option, Some, None, ◌==◌, ◌||◌, nat_le, length, get_or, take, drop, reverse, ◌-◌, if◌then◌else◌}
+use Rattle.std.specs.Prelude.{ℕ, Bool, false, not, ⊤, List, [], ◌∷◌, Option, Some, None, ◌==◌, ◌&&◌, ◌||◌, nat_le, length, get_or, take, drop, reverse, ◌-◌, if◌then◌else◌}
 use Rattle.std.specs.List.{list_all, prefix_len}
 use Rattle.csv.specs.Machine.{Read, next_record}
 use Rattle.csv.specs.Reading.{default_config, strip_bom}
@@ -22,6 +22,21 @@ only_record (Some read) = alone read.0 (next_record default_config read.1 [] [] 
 unfoldable pub fields_of_line : List ℕ → Option (List (List ℕ))
 fields_of_line line =
     if nat_le (length line) 65536 then only_record (next_record default_config st.StartRecord [] [] (strip_bom line)) else None
+
+-- a comma
+abbrev pub is_comma : ℕ → Bool
+is_comma byte = byte == 44
+
+-- a byte that quotes nothing and ends no record: no double quote, carriage return or line feed
+abbrev pub is_plain_byte : ℕ → Bool
+is_plain_byte byte = not ((byte == 34) || (byte == 13) || (byte == 10))
+
+-- a line whose fields are simply the pieces between its commas: it isn't empty, doesn't begin as a byte-order mark
+-- does, isn't too long, and has plain bytes alone
+unfoldable pub is_plain : List ℕ → Bool
+is_plain [] = false
+is_plain (byte ∷ bytes) =
+    not (byte == 239) && nat_le (length (byte ∷ bytes)) 65536 && list_all is_plain_byte (byte ∷ bytes)
 
 -- the field of a column, from 0, with no bytes where there is none
 abbrev pub field_in : List (List ℕ) → ℕ → List ℕ

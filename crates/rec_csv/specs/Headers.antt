@@ -3,6 +3,7 @@ use Rattle.std.specs.Prelude.{ℕ, ◌≡◌, ⊤, ◌+◌, List, [], ◌∷◌,
 use Rattle.net_model.specs.declared.wires.WireNo.{WireNo}
 use Rattle.net_model.specs.declared.wires.Wire.{Wire}
 use Rattle.net_model.specs.Wires.{wire_at, inputs_of}
+use Rattle.net_model.specs.Forms.{◌>>=◌}
 use Rattle.rec_csv.specs.declared.faults.HeadFault.{HeadFault}
 use Rattle.rec_csv.specs.declared.faults.HeadFault.TheVariants.{BadLine, Missing, Twice, OutOfMemory}
 use Rattle.rec_csv.specs.declared.columns.Column.{Column}
@@ -12,12 +13,6 @@ use Rattle.rec_csv.specs.Fields.{fields_of_line, trimmed}
 pub record HeaderData : Type 0 where
   pub width : ℕ
   pub columns : List Column
-
-infixl 10 ◌>>=◌
--- what comes next, unless there is a fault
-abbrev pub ◌>>=◌ : {A B E : Type 0} → Result A E → (A → Result B E) → Result B E
-Ok value >>= next = next value
-Err fault >>= next = Err fault
 
 -- the columns that are named so, of fields that are numbered from i
 unfoldable pub places_from : ℕ → List ℕ → List (List ℕ) → List ℕ

@@ -5,7 +5,9 @@ mod columns;
 mod faults;
 mod header;
 mod line_fields;
+mod plain_rows;
 mod rows;
+mod slots;
 #[cfg(test)]
 mod tests;
 

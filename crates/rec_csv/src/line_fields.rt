@@ -10,8 +10,8 @@ ghost use Rattle.rec_csv.specs.Fields.{IsOfSource, field_in, fields_of_line, is_
 use csv::{ByteRecord, Error, ErrorKind, Reader, ReaderBuilder};
 use std::alloc::Global;
 
-// How many bytes a line may have.
-const MOST_BYTES: usize = 65_536;
+/// How many bytes a line may have.
+pub const MOST_BYTES: usize = 65_536;
 
 /// Why a line has no fields.
 #[derive(Clone, Copy, Debug, PartialEq, Eq)]

@@ -29,8 +29,10 @@ pub fn fill(columns: &[Column], row: &ByteRecord, values: &mut [i64]) -> Result<
     Ok(())
 }
 
+/// The value of an input whose field is this one.
 #[tactic(auto, using(crate::proofs::HeldValues::value_of_held))]
-fn value_of(column: Column, field: &[u8]) -> Result<i64, RowFault>
+#[inline(always)]
+pub fn value_of(column: Column, field: &[u8]) -> Result<i64, RowFault>
     ensures { result ≡ value_of column field.now }
 {
     let value = number(trimmed(field)).ok_or(RowFault::BadNumber(column.wire))?;

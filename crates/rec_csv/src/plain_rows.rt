@@ -1,0 +1,128 @@
+// The values of a plain line: one walk over its bytes, with no memory taken and nothing copied.
+ghost use Rattle.std.specs.Prelude.{◌≡◌, ◌≤◌, ◌<◌, ◌∷◌, [], not, length, IfErr, IsTrue, MatchOption, OnOk, Ok};
+ghost use Rattle.std.specs.List.{list_all, prefix_len};
+ghost use Rattle.text_words.specs.Lines.{pieces};
+ghost use Rattle.rec_csv.specs.Fields.{is_comma, is_plain, is_plain_byte};
+ghost use Rattle.rec_csv.specs.Rows.{Leaves, Tells, row_of, value_of, values_before};
+ghost use Rattle.rec_csv.specs.Slots.{IsTable, header_with};
+ghost use Rattle.rec_csv.specs.Verdicts.{values_after, verdict_after};
+
+use crate::columns::Column;
+use crate::faults::RowFault;
+use crate::line_fields::MOST_BYTES;
+use crate::rows::value_of;
+
+/// What is known of a row's values after some of its fields.
+#[derive(Clone, Copy)]
+struct Verdict {
+    /// The least input that is known to be faulty, or the number of inputs.
+    good_before: usize,
+    /// The fault of that input, if there is one.
+    outcome: Result<(), RowFault>,
+}
+
+/// Whether the fields of a line are simply the pieces between its commas.
+#[tactic(auto, unfolding(crate::specs::Fields::is_plain))]
+pub fn is_plain(line: &[u8]) -> bool
+    ensures { result ≡ is_plain line.now }
+{
+    match line {
+        [] => false,
+        [first, ..] => *first != 0xEF && line.len() <= MOST_BYTES && are_plain(line),
+    }
+}
+
+fn are_plain(bytes: &[u8]) -> bool
+    ensures { result ≡ list_all is_plain_byte bytes.now }
+{
+    bytes.iter().all(|byte| is_plain_byte(*byte))
+}
+
+// The three bytes lie below those of numbers and commas, so one comparison answers for nearly all.
+fn is_plain_byte(byte: u8) -> bool
+    ensures { result ≡ is_plain_byte byte }
+{
+    byte > b'"' || (byte != b'"' && byte != b'\r' && byte != b'\n')
+}
+
+/// Fills in the values of a plain line's row. The slots say which input stands in each of the header's columns.
+#[tactic(auto, using(crate::proofs::WalkFacts::narrow, crate::proofs::WalkFacts::ends_values))]
+pub fn fill_plain(
+    columns: &[Column],
+    slots: &[Option<u32>],
+    line: &[u8],
+    values: &mut [i64],
+) -> Result<(), RowFault>
+    requires plain { IsTrue (is_plain line.now) }
+    requires table { IsTable columns.now slots.now }
+    requires one_each { length values.old ≡ length columns.now }
+    ensures values { OnOk result (row_of (header_with columns.now slots.now) line.now ≡ Ok values.new) }
+    ensures fault { IfErr result (Tells (row_of (header_with columns.now slots.now) line.now)) }
+    ensures before { IfErr result (Leaves (values_before (header_with columns.now slots.now) line.now) values.new) }
+{
+    let mut left = Some(line);
+    let mut verdict = Verdict {
+        good_before: columns.len(),
+        outcome: Ok(()),
+    };
+    'slots: for slot in slots {
+        let Some(bytes) = left else {
+            return Err(RowFault::BadWidth);
+        };
+        let (field, behind) = first_field(bytes);
+        left = behind;
+        if let Some(number) = *slot {
+            let input = number as usize;
+            verdict = with_field(columns[input], input, field, values, verdict);
+        }
+    }
+    verdict.outcome
+}
+
+// What is known after the field of an input, whose value is written. An input behind a faulty one doesn't matter.
+#[tactic(auto, unfolding(crate::specs::Verdicts::values_after, crate::specs::Verdicts::verdict_after))]
+fn with_field(
+    column: Column,
+    input: usize,
+    field: &[u8],
+    values: &mut [i64],
+    verdict: Verdict,
+) -> Verdict
+    requires { input < length values.old }
+    ensures values { values.new ≡ values_after verdict input (value_of column field.now) values.old }
+    ensures verdict { result ≡ verdict_after verdict input (value_of column field.now) }
+{
+    if verdict.good_before <= input {
+        return verdict;
+    }
+    match value_of(column, field) {
+        Ok(value) => {
+            values[input] = value;
+            verdict
+        }
+        Err(fault) => Verdict {
+            good_before: input,
+            outcome: Err(fault),
+        },
+    }
+}
+
+// The bytes before the first comma, and those behind it, if there is one.
+fn first_field(bytes: &[u8]) -> (&[u8], Option<&[u8]>)
+    ensures { MatchOption result.1 (pieces is_comma bytes.now ≡ result.0.now ∷ [])
+        (λ behind. pieces is_comma bytes.now ≡ result.0.now ∷ pieces is_comma behind.now) }
+{
+    let (field, rest) = bytes.split_at(field_len(bytes));
+    match rest {
+        [_, behind @ ..] => (field, Some(behind)),
+        [] => (field, None),
+    }
+}
+
+// How many bytes stand before the first comma.
+fn field_len(bytes: &[u8]) -> usize
+    ensures value { result ≡ prefix_len (λ byte. not (is_comma byte)) bytes.now }
+    ensures within { result ≤ length bytes.now }
+{
+    bytes.iter().take_while(|byte| **byte != b',').count()
+}
