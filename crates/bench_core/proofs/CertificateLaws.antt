@@ -1,14 +1,12 @@
 -- A text that says a certificate says one entry for each part.
-use Rattle.std.proofs.Common.{◌≡◌, ℕ, ◌+◌, ◌==◌, Bool, true, false, cond, List, [], ◌∷◌, ◌++◌, length, Result, Ok, Err, refl, sym, ◌∙◌, ap, eqb-true}
-use Rattle.text_words.specs.Lines.{lines_of, nth, words_of}
+use Rattle.std.proofs.Common.{◌≡◌, ℕ, ◌+◌, ◌==◌, Bool, true, false, cond, List, [], ◌∷◌, length, Result, Ok, Err, refl, sym, ◌∙◌, ap, eqb-true}
+use Rattle.text_words.specs.Lines.{lines_of, words_of}
 use Rattle.net_model.specs.declared.wires.Wire.{Wire}
 use Rattle.net_model.specs.Wires.{parts_of}
 use Rattle.net_model.specs.Forms.{◌>>=◌}
 use Rattle.cert_rules.specs.declared.bounds.Bounds.{Bounds}
-use Rattle.bench_core.specs.declared.cert_kind.CertKind.{CertKind}
-use Rattle.bench_core.specs.declared.cert_kind.CertKind.TheVariants.{NoHead, Missing}
-use Rattle.bench_core.specs.declared.cert_kind.CertFault.{CertFault}
-use Rattle.bench_core.specs.CertificateText.{demand, located, after_line, ended, walked, is_head, no_head, from_head, certificate_of}
+use Rattle.bench_core.specs.declared.cert_kind.CertKind.TheVariants.{Missing}
+use Rattle.bench_core.specs.CertificateText.{demand, located, after_line, ended, walked, is_head, from_head, certificate_of}
 
 -- two steps that give something: the first does
 bound : {A B E : Type 0} (r : Result A E) (next : A → Result B E) (y : B) → (r >>= next) ≡ Ok y → (x : A) × (next x ≡ Ok y)

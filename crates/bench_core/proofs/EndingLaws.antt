@@ -1,15 +1,13 @@
 -- How a command ends, put together from how its steps end.
-use Rattle.std.proofs.Common.{◌≡◌, ℕ, ◌+◌, ◌<◌, ◌≤◌, List, [], ◌∷◌, ◌++◌, length, take, Option, Result, Ok, Err, refl, sym, ◌∙◌, ap, subst, append-nil, arith}
-use Rattle.std.specs.Prelude.{Contains, slice_index_or}
-use Rattle.std.specs.Io.KnownBytes.{Appends}
-use Rattle.std.proofs.KnownBytes.{Appends-nil, Appends-trans}
+use Rattle.std.proofs.Common.{◌≡◌, ℕ, ◌≤◌, List, [], ◌∷◌, ◌++◌, Option, Result, Ok, Err, refl, sym, subst, append-nil, arith}
+use Rattle.std.specs.Prelude.{Contains}
+use Rattle.std.proofs.KnownBytes.{Appends-nil}
 use Rattle.std.proofs.lemmas.List.Elements.{Contains-append_right}
 use Rattle.fx_io.specs.Causes.{Rose}
 use Rattle.bench_core.specs.declared.endings.Ending.{Ending}
 use Rattle.bench_core.specs.declared.endings.Ending.TheVariants.{Usage, Refused, CannotRead, CannotWrite, OutOfMemory}
 use Rattle.bench_core.specs.Outcomes.{Outcome, Refusal, reading, reached, after, printed, done}
-use Rattle.bench_core.specs.RefusalTexts.{cannot_read}
-use Rattle.bench_core.specs.HowItEnds.{Ends, EndsEarly, Gives, Makes, Prints, StopsAt, StopsInside, StopsPrinting, HasStopCause, HasEarlyCause, HasEndingCause, WritesFront}
+use Rattle.bench_core.specs.HowItEnds.{Ends, EndsEarly, Gives, Prints, StopsAt, StopsInside, HasStopCause, HasEarlyCause, HasEndingCause, WritesFront}
 
 -- nothing is a front of any bytes
 front_of_none : (a : Option (List ℕ)) (bytes : List ℕ) → WritesFront a a bytes
@@ -106,3 +104,12 @@ cause_of_printing bytes old new before now files first later failed (Err (Refuse
 cause_of_printing bytes old new before now files first later failed (Err (CannotRead text)) h = absurd h
 cause_of_printing bytes old new before now files first later failed (Err CannotWrite) h = h.0
 cause_of_printing bytes old new before now files first later failed (Err OutOfMemory) h = tt
+
+-- why what comes behind some printing ended is why the command ended
+pub cause_behind_printing : {T : Type 0} (files : List (List ℕ)) (first now : ℕ) (failed : List ℕ) (out_first out_before out_now : ℕ) (r : Result T Ending) → out_first ≤ out_before → HasEndingCause files first now failed out_before out_now r → HasEndingCause files first now failed out_first out_now r
+cause_behind_printing files first now failed a b c (Ok v) l h = tt
+cause_behind_printing files first now failed a b c (Err Usage) l h = absurd h
+cause_behind_printing files first now failed a b c (Err (Refused n)) l h = tt
+cause_behind_printing files first now failed a b c (Err (CannotRead text)) l h = h
+cause_behind_printing files first now failed a b c (Err CannotWrite) l h = rose_earlier a b c l h
+cause_behind_printing files first now failed a b c (Err OutOfMemory) l h = tt

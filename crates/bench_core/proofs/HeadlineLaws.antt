@@ -1,112 +1,27 @@
 -- Where `check` answers 0, the certificate holds.
-use Rattle.std.proofs.Common.{◌≡◌, ◌≢◌, ℕ, ◌<◌, Bool, true, false, List, [], ◌∷◌, ◌++◌, length, Option, Some, None, Result, Ok, Err, refl, sym, ◌∙◌, ap, subst, append-nil, arith, if◌then◌else◌}
+use Rattle.std.proofs.Common.{◌≡◌, ℕ, Bool, true, false, List, length, Option, Some, None, Ok, refl, sym, ◌∙◌, subst, append-nil, arith, if◌then◌else◌}
 use Rattle.std.specs.Prelude.{⊤, nat_lt, ◌&&◌}
 use Rattle.std.specs.Io.KnownBytes.{Appends}
 use Rattle.fx_io.specs.Outside.{bytes_of}
 use Rattle.net_model.specs.declared.wires.Wire.{Wire}
-use Rattle.net_model.specs.Wires.{NetData, parts_of}
+use Rattle.net_model.specs.Wires.{NetData}
 use Rattle.cert_rules.specs.declared.bounds.Bounds.{Bounds}
-use Rattle.cert_rules.specs.Acceptance.{Accepts, first_rejected}
+use Rattle.cert_rules.specs.Acceptance.{first_rejected}
 use Rattle.cert_rules.proofs.AcceptanceLaws.{accepts_from_none_rejected, all_are_smooth}
 use Rattle.cert_rules.proofs.TheoremProof.{certificates_hold}
-use Rattle.net_model.specs.Text.{network_of, has_unbuilt}
+use Rattle.net_model.specs.Text.{network_of}
 use Rattle.bench_core.specs.PartNames.{part_name}
 use Rattle.bench_core.specs.CertificateText.{certificate_of}
 use Rattle.net_model.proofs.ReadingLaw.{network_of_valid}
 use Rattle.bench_core.proofs.CertificateLaws.{certificate_of-complete}
-use Rattle.bench_core.specs.Outcomes.{Outcome, Refusal, after, reading, refused}
-use Rattle.net_model.specs.Forms.{◌>>=◌}
-use Rattle.bench_core.specs.RefusalTexts.{usage, too_long, not_built, refused_text, not_accepted}
-use Rattle.bench_core.specs.Requests.{Request, check, is_file_word, check_words, request_of}
-use Rattle.bench_core.specs.CheckAnswer.{if_faultless, file_read, network_in, network_read, certificate_in, certificate_read, if_none_rejected, acceptance, accepted_line, tell_accepted, check_entries, check_certificate, check_answer, text_limit}
+use Rattle.bench_core.proofs.PassedSteps.{RefusesAbove, above_from, bytes_above, bytes_given, chain_above, chain_given, faultless_above, given_faultless, network_above, network_given, ok_is_not_error, passed}
+use Rattle.bench_core.specs.Outcomes.{Outcome}
+use Rattle.bench_core.specs.RefusalTexts.{not_accepted}
+use Rattle.bench_core.specs.Requests.{check, is_file_word, check_words, request_of}
+use Rattle.bench_core.specs.CheckAnswer.{file_read, network_read, certificate_in, certificate_read, if_none_rejected, acceptance, accepted_line, tell_accepted, check_entries, check_certificate, check_answer, text_limit}
 use Rattle.bench_core.specs.WholeAnswer.{answer_of, answer_of_request}
 use Rattle.bench_core.specs.Headline.{IsCertified}
 use Rattle.bench_core.specs.Clauses.{Certifies}
-
--- a step's refusals have other statuses than 0
-abbrev RefusesAbove : {T : Type 0} → Result T Refusal → Type 0
-RefusesAbove {T} step = (r : Refusal) → step ≡ Err r → 0 < r.status
-
--- the refusal of a step is the one that it is
-same_error : {T : Type 0} (q r : Refusal) → ◌≡◌ {A = Result T Refusal} (Err q) (Err r) → q ≡ r
-same_error q r h = cc
-
-above_from : {T : Type 0} (q : Refusal) → 0 < q.status → RefusesAbove {T = T} (Err q)
-above_from q p r h = subst (λ (s : Refusal). 0 < s.status) (same_error q r h) p
-
-ok_is_not_error : {T : Type 0} (x : T) (r : Refusal) → ◌≡◌ {A = Result T Refusal} (Ok x) (Err r) → ⊥
-ok_is_not_error x r h = cc
-
--- what a step gave where the work was done in the end
-record Passed {T : Type 0} (step : Result T Refusal) (next : T → Outcome) : Type 0 where
-  given : T
-  gives : step ≡ Ok given
-  done_after : (next given).status ≡ 0
-  prints : (after step next).out ≡ (next given).out
-
-passed : {T : Type 0} (step : Result T Refusal) (next : T → Outcome) → RefusesAbove step → (after step next).status ≡ 0 → Passed step next
-passed (Ok x) next above h = record { given = x; gives = refl; done_after = h; prints = refl }
-passed (Err r) next above h = let p : 0 < r.status = above r refl in absurd (omega arith)
-
--- ---- the network
-
-same_given : {T : Type 0} (y x : T) → ◌≡◌ {A = Result T Refusal} (Ok y) (Ok x) → y ≡ x
-same_given y x h = cc
-
--- a text without fault is what it means
-given_faultless : {T F : Type 0} (status : ℕ) (name : List ℕ) (read : Result T F) (x : T) → if_faultless status name read ≡ Ok x → read ≡ Ok x
-given_faultless status name (Ok y) x h = ap Ok (same_given y x h)
-given_faultless status name (Err f) x h = absurd (ok_is_not_error x (refused_text status name) (sym h))
-
-faultless_above : {T F : Type 0} (status : ℕ) (name : List ℕ) (read : Result T F) → 0 < status → RefusesAbove (if_faultless status name read)
-faultless_above status name (Ok y) p r h = absurd (ok_is_not_error y r h)
-faultless_above status name (Err f) p r h = above_from (refused_text status name) p r h
-
--- two parts of a step
-chain_above : {A B : Type 0} (step : Result A Refusal) (f : A → Result B Refusal) → RefusesAbove step → ((x : A) → RefusesAbove (f x)) → RefusesAbove (step >>= f)
-chain_above (Ok x) f a b = b x
-chain_above (Err q) f a b = above_from q (a q refl)
-
-record Parts {A B : Type 0} (step : Result A Refusal) (f : A → Result B Refusal) (y : B) : Type 0 where
-  middle : A
-  first : step ≡ Ok middle
-  second : f middle ≡ Ok y
-
-chain_given : {A B : Type 0} (step : Result A Refusal) (f : A → Result B Refusal) (y : B) → (step >>= f) ≡ Ok y → Parts step f y
-chain_given (Ok x) f y h = record { middle = x; first = refl; second = h }
-chain_given (Err q) f y h = absurd (ok_is_not_error y q (sym h))
-
--- the bytes of a file
-bytes_above : (b : Bool) (name bytes : List ℕ) → RefusesAbove (if b then Err (too_long name) else Ok bytes)
-bytes_above true name bytes r h = above_from (too_long name) (omega arith) r h
-bytes_above false name bytes r h = absurd (ok_is_not_error bytes r h)
-
-bytes_given : (b : Bool) (name bytes x : List ℕ) → ◌≡◌ {A = Result (List ℕ) Refusal} (if b then Err (too_long name) else Ok bytes) (Ok x) → x ≡ bytes
-bytes_given true name bytes x h = absurd (ok_is_not_error x (too_long name) (sym h))
-bytes_given false name bytes x h = cc
-
--- the network of a text
-network_in_above : {F : Type 0} (u : Bool) (name : List ℕ) (read : Result NetData F) → RefusesAbove (if u then Err (not_built name) else if_faultless 3 name read)
-network_in_above true name read r h = above_from (not_built name) (omega arith) r h
-network_in_above false name read r h = faultless_above 3 name read (omega arith) r h
-
-network_in_given : {F : Type 0} (u : Bool) (name : List ℕ) (read : Result NetData F) (net : NetData) → (if u then Err (not_built name) else if_faultless 3 name read) ≡ Ok net → read ≡ Ok net
-network_in_given true name read net h = absurd (ok_is_not_error net (not_built name) (sym h))
-network_in_given false name read net h = given_faultless 3 name read net h
-
-network_above : (files : List (List ℕ × List ℕ)) (name : List ℕ) → RefusesAbove (network_read files name)
-unfolding network_read network_in
-network_above files name =
-    let bytes = bytes_of files name in
-    chain_above (file_read files name text_limit) (network_in name) (bytes_above (nat_lt text_limit (length bytes)) name bytes) (λ x. network_in_above (has_unbuilt x) name (network_of x))
-
-network_given : (files : List (List ℕ × List ℕ)) (name : List ℕ) (net : NetData) → network_read files name ≡ Ok net → network_of (bytes_of files name) ≡ Ok net
-unfolding network_read network_in
-network_given files name net h =
-    let bytes = bytes_of files name in
-    let p = chain_given (file_read files name text_limit) (network_in name) net h in
-    let e = bytes_given (nat_lt text_limit (length bytes)) name bytes p.middle p.first in
-    subst (λ b. network_of b ≡ Ok net) e (network_in_given (has_unbuilt p.middle) name (network_of p.middle) net p.second)
 
 -- ---- the certificate
 

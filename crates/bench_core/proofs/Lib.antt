@@ -5,5 +5,11 @@ pub mod StepLaws
 pub mod EndingLaws
 pub mod ClauseLaws
 pub mod CertificateLaws
+pub mod PassedSteps
 pub mod HeadlineLaws
+pub mod RunHeadline
 pub mod RejectedPlaces
+pub mod TypedRows
+pub mod PrintedLines
+pub mod RecordingSteps
+pub mod RunLaws

@@ -1,5 +1,5 @@
 -- What steps give, put together from what their parts give.
-use Rattle.std.proofs.Common.{◌≡◌, ℕ, List, Result, Ok, Err, refl, sym, ◌∙◌, ap, subst}
+use Rattle.std.proofs.Common.{◌≡◌, ℕ, List, Result, Ok, Err, sym, ◌∙◌, ap}
 use Rattle.bench_core.specs.declared.endings.Ending.{Ending}
 use Rattle.bench_core.specs.declared.endings.Ending.TheVariants.{Usage, Refused, CannotRead, CannotWrite, OutOfMemory}
 use Rattle.bench_core.specs.Outcomes.{Refusal}

@@ -8,7 +8,7 @@ use Rattle.bench_core.specs.RefusalTexts.{usage, cannot_read, cannot_write, out_
 use Rattle.bench_core.specs.Requests.{Request, files_asked}
 use Rattle.bench_core.specs.HowItEnds.{WritesFront, SaysAll}
 use Rattle.bench_core.specs.CheckAnswer.{accepted_line}
-use Rattle.bench_core.specs.Headline.{IsCertified}
+use Rattle.bench_core.specs.Headline.{IsCertified, IsRunOf}
 
 -- where the status isn't one of 2, 7 and 8, to which each exact cause yields: the status is the answer's, all that it
 -- prints was written, and all that it says was said
@@ -39,3 +39,7 @@ HasUsageText request out_old out_new err_old err_new err_before err_now = (reque
 -- `accepted` was printed, and the certificate holds for the network
 abbrev pub Certifies : List (List ℕ × List ℕ) → List ℕ → List ℕ → Option (List ℕ) → Option (List ℕ) → Type 0
 Certifies files net cert old new = Appends old new accepted_line × IsCertified (bytes_of files net) (bytes_of files cert)
+
+-- a text was printed that is the printed run of the recording
+abbrev pub Runs : List (List ℕ × List ℕ) → List ℕ → List ℕ → Option (List ℕ) → Option (List ℕ) → Type 0
+Runs files net rec old new = (text : List ℕ) × Appends old new text × IsRunOf (bytes_of files net) (bytes_of files rec) text

@@ -7,6 +7,10 @@ pub mod Requests
 pub mod Statuses
 pub mod HowItEnds
 pub mod CheckAnswer
+pub mod PrintedRuns
+pub mod RecordingTexts
+pub mod RunAnswer
+pub mod RunSteps
 pub mod WholeAnswer
 pub mod Headline
 pub mod Clauses

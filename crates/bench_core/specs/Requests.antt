@@ -2,32 +2,36 @@
 use Rattle.std.specs.Prelude.{ℕ, Bool, false, not, ◌&&◌, List, [], ◌∷◌, Option, Some, None, ◌==◌, codes, bytes_eq, if◌then◌else◌, ⊤}
 use Rattle.std.specs.Io.KnownBytes.{Appends}
 use Rattle.bench_core.specs.declared.commands.Command.{Command}
-use Rattle.bench_core.specs.declared.commands.Command.TheVariants.{Check}
+use Rattle.bench_core.specs.declared.commands.Command.TheVariants.{Check, Run}
 
 -- a command with its words
 pub data Request : Type 0 where
   check : List ℕ → List ℕ → Request
+  run : List ℕ → List ℕ → Request
 
 -- a word that may name a file isn't empty and doesn't begin with `-`
 abbrev pub is_file_word : List ℕ → Bool
 is_file_word [] = false
 is_file_word (b ∷ bytes) = not (b == 45)
 
--- `check NET CERT`, from the words behind the first
-abbrev pub check_request : List (List ℕ) → Option Request
-check_request [] = None
-check_request (net ∷ []) = None
-check_request (net ∷ cert ∷ []) = if is_file_word net && is_file_word cert then Some (check net cert) else None
-check_request (net ∷ cert ∷ word ∷ words) = None
+-- a command over a network and one file more, from the words behind the first
+abbrev pub over_two_files : (List ℕ → List ℕ → Request) → List (List ℕ) → Option Request
+over_two_files command [] = None
+over_two_files command (net ∷ []) = None
+over_two_files command (net ∷ other ∷ []) = if is_file_word net && is_file_word other then Some (command net other) else None
+over_two_files command (net ∷ other ∷ word ∷ words) = None
 
--- the command that the words ask for; none where they are outside the grammar
+-- the command that the words ask for, `check NET CERT` or `run NET REC`; none where they are outside the grammar
 abbrev pub request_of : List (List ℕ) → Option Request
 request_of [] = None
-request_of (command ∷ words) = if bytes_eq command (codes "check") then check_request words else None
+request_of (command ∷ words) =
+    if bytes_eq command (codes "check") then over_two_files check words
+    else (if bytes_eq command (codes "run") then over_two_files run words else None)
 
 -- the files of a command, in the order in which they are read
 abbrev pub files_of : Request → List (List ℕ)
 files_of (check net cert) = net ∷ cert ∷ []
+files_of (run net rec) = net ∷ rec ∷ []
 
 -- the files of the command that is asked for, if one is
 abbrev pub files_asked : Option Request → List (List ℕ)
@@ -37,12 +41,18 @@ files_asked (Some request) = files_of request
 -- the request that a command is
 abbrev pub request_seen : Command → Request
 request_seen (Check net cert) = check net.now cert.now
+request_seen (Run net rec) = run net.now rec.now
 
 -- the words `check NET CERT`
 abbrev pub check_words : List ℕ → List ℕ → List (List ℕ)
 check_words net cert = codes "check" ∷ net ∷ cert ∷ []
 
--- what a command has printed where a file can't be read: `check` prints nothing before all is read
+-- the words `run NET REC`
+abbrev pub run_words : List ℕ → List ℕ → List (List ℕ)
+run_words net rec = codes "run" ∷ net ∷ rec ∷ []
+
+-- what a command has printed where a file can't be read: each built command prints nothing before all is read
 abbrev pub PrintsUnread : Option Request → Option (List ℕ) → Option (List ℕ) → Type 0
 PrintsUnread None old new = ⊤
 PrintsUnread (Some (check net cert)) old new = Appends old new []
+PrintsUnread (Some (run net rec)) old new = Appends old new []

@@ -6,12 +6,14 @@ use Rattle.bench_core.specs.declared.endings.Ending.{Ending}
 use Rattle.bench_core.specs.declared.endings.Ending.TheVariants.{Usage, Refused, CannotRead, CannotWrite, OutOfMemory}
 use Rattle.bench_core.specs.Outcomes.{Outcome, refused}
 use Rattle.bench_core.specs.RefusalTexts.{usage, cannot_read}
-use Rattle.bench_core.specs.Requests.{Request, check, request_of, files_asked}
+use Rattle.bench_core.specs.Requests.{Request, check, run, request_of, files_asked}
 use Rattle.bench_core.specs.CheckAnswer.{check_answer}
+use Rattle.bench_core.specs.RunAnswer.{run_answer}
 
 -- the answer of each command
 abbrev pub request_answer : List (List ℕ × List ℕ) → Request → Outcome
 request_answer files (check net cert) = check_answer files net cert
+request_answer files (run net rec) = run_answer files net rec
 
 -- the answer where the words ask for a command, and where they are outside the grammar
 abbrev pub answer_of_request : List (List ℕ × List ℕ) → Option Request → Outcome

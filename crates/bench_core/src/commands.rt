@@ -1,12 +1,14 @@
 // The word grammar.
-ghost use Rattle.std.specs.Prelude.{◌≡◌, map, string_bytes, option_map};
-ghost use Rattle.bench_core.specs.Requests.{request_of, check_request, is_file_word, request_seen};
+ghost use Rattle.std.specs.Prelude.{◌≡◌, ℕ, List, map, string_bytes, option_map};
+ghost use Rattle.bench_core.specs.Requests.{Request, request_of, over_two_files, is_file_word, request_seen};
 
 /// A command with its words.
 #[derive(Clone, Copy)]
 pub(crate) enum Command<'a> {
     /// Checks a certificate of a network.
     Check { net: &'a str, cert: &'a str },
+    /// Runs a network over a recording.
+    Run { net: &'a str, rec: &'a str },
 }
 
 /// The command that the words ask for. None: they are outside the grammar.
@@ -17,7 +19,11 @@ pub(crate) fn command_of(words: &[String]) -> Option<Command<'_>>
         [] => None,
         [command, rest @ ..] => {
             if command.as_str() == "check" {
-                check_command(rest)
+                let (net, cert) = two_files(rest)?;
+                Some(Command::Check { net, cert })
+            } else if command.as_str() == "run" {
+                let (net, rec) = two_files(rest)?;
+                Some(Command::Run { net, rec })
             } else {
                 None
             }
@@ -25,14 +31,15 @@ pub(crate) fn command_of(words: &[String]) -> Option<Command<'_>>
     }
 }
 
-// `check NET CERT`, from the words behind the first.
-fn check_command(words: &[String]) -> Option<Command<'_>>
-    ensures { option_map request_seen result ≡ check_request (map string_bytes words.now) }
+// The words of a command over a network and one file more, from those behind the first.
+fn two_files(words: &[String]) -> Option<(&str, &str)>
+    ensures { (command : List ℕ → List ℕ → Request) →
+        option_map (λ f. command f.0.now f.1.now) result ≡ over_two_files command (map string_bytes words.now) }
 {
     match words {
-        [net, cert] => {
-            if is_file(net) && is_file(cert) {
-                Some(Command::Check { net, cert })
+        [net, other] => {
+            if is_file(net) && is_file(other) {
+                Some((net, other))
             } else {
                 None
             }

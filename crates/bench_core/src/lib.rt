@@ -8,9 +8,13 @@ mod cert_reader;
 mod checking;
 mod commands;
 mod endings;
+mod evaluation;
 mod notice;
 mod part_naming;
+mod recording_refusals;
 mod refusals;
+mod run_lines;
+mod running;
 mod steps;
 #[cfg(test)]
 mod tests;

@@ -1,5 +1,5 @@
 // The lines that are said of refusals, and printing.
-ghost use Rattle.std.specs.Prelude.{◌≡◌, ◌++◌, ◌∷◌, [], IfOk};
+ghost use Rattle.std.specs.Prelude.{◌≡◌, ◌≤◌, ◌++◌, ◌∷◌, [], IfOk};
 ghost use Rattle.bench_core.specs.Outcomes.{line};
 ghost use Rattle.bench_core.specs.HowItEnds.{RefusesWith, Prints, IsUnread};
 ghost use Rattle.bench_core.specs.Statuses.{IsRefusalStatus};
@@ -43,8 +43,9 @@ fn line_of(alloc: Global, front: &[u8], back: &[u8]) -> Result<Vec<u8>, AllocErr
 
 /// Prints the text in one write.
 pub(crate) fn print<O: Sink>(out: &mut O, text: &[u8]) -> Result<(), Ending>
-    ensures { Prints text.now (O.written out.old) (O.written out.new)
+    ensures text { Prints text.now (O.written out.old) (O.written out.new)
         (O.faults out.old) (O.faults out.new) result }
+    ensures count { O.faults out.old ≤ O.faults out.new }
 {
     match out.write(text) {
         Ok(()) => Ok(()),

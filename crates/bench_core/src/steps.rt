@@ -31,7 +31,7 @@ pub(crate) fn network_at<S: Shelf>(
         (S.failed shelf.new) result }
     ensures files { S.files shelf.new ≡ S.files shelf.old }
 {
-    let text = read_file(alloc, shelf, name)?;
+    let text = read_file(alloc, shelf, name, TEXT_LIMIT)?;
     network_of_text(alloc, name, &text)
 }
 
@@ -64,7 +64,7 @@ pub(crate) fn certificate_at<S: Shelf>(
     ensures files { S.files shelf.new ≡ S.files shelf.old }
     ensures complete { IfOk result (λ v. length v.items ≡ length (parts_of network.now.wires)) }
 {
-    let text = read_file(alloc, shelf, name)?;
+    let text = read_file(alloc, shelf, name, TEXT_LIMIT)?;
     certificate_of_text(alloc, name, network, &text)
 }
 
@@ -99,16 +99,22 @@ pub(crate) fn accept(alloc: Global, network: &Network, entries: &[Bounds]) -> Re
     }
 }
 
-// All bytes of a file.
-fn read_file<S: Shelf>(alloc: Global, shelf: &mut S, name: &str) -> Result<Vec<u8>, Ending>
+/// All bytes of a file, which has at most so many.
+pub(crate) fn read_file<S: Shelf>(
+    alloc: Global,
+    shelf: &mut S,
+    name: &str,
+    limit: usize,
+) -> Result<Vec<u8>, Ending>
+    requires { limit ≤ 2 ^ 32 }
     ensures told { ForSome (S.files shelf.old)
-        (λ files. Gives vec_items (file_read files name.now text_limit) result) }
+        (λ files. Gives vec_items (file_read files name.now limit) result) }
     ensures cause { HasStepCause name.now (S.faults shelf.old) (S.faults shelf.new)
         (S.failed shelf.new) result }
     ensures files { S.files shelf.new ≡ S.files shelf.old }
-    ensures bound { IfOk result (λ text. length text.items ≤ text_limit) }
+    ensures bound { IfOk result (λ bytes. length bytes.items ≤ limit) }
 {
-    match read_all(alloc, shelf, name, TEXT_LIMIT) {
+    match read_all(alloc, shelf, name, limit) {
         Ok(bytes) => Ok(bytes),
         Err(ReadAllFault::ReadFault) => Err(unread(alloc, name)),
         Err(ReadAllFault::TooLong) => Err(refuse(alloc, 9, b"too long ", name.as_bytes())),

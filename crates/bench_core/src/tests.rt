@@ -22,6 +22,19 @@ const PRODUCT: &str = "net 1\nin a s16 0 1000\nwire s s16 = Mfx_Mul_s16s16_s16 a
 const NO_OUTPUT: &str =
     "net 1\nin a s16 0 1000\nin b s16.4 -160 160\nwire c s16 = Mfx_ConvertP2_s16_s16 b\nwire s s16 = Mfx_Add_s16s16_s16 a c\n";
 
+const ROWS: &str = "a,b\n5,-1\n1000,160\n";
+
+const BEYOND_RANGE: &str = "a,b\n1001,0\n";
+
+const OTHER_ORDER: &str = "b,a\n16,1\n";
+
+const NO_COLUMN: &str = "a\n1\n";
+
+const SHORT_ROW: &str = "a,b\n1,0\n2\n";
+
+const FROM_A_TOOL: &str =
+    "\u{feff}\"time\",\"a\" ,b\r\n\r\n0.1, +5,-016\r\n0.2,007,32768\r\n0.3,1,1\r\n";
+
 const USAGE: &str =
     "usage: bench check NET CERT | run NET REC | audit NET CERT REC | propose NET | gen SEED ROWS\n";
 
@@ -40,6 +53,12 @@ fn files(alloc: Global) -> Result<Vec<Stored>, AllocError> {
         ("short", SHORT),
         ("product", PRODUCT),
         ("no_output", NO_OUTPUT),
+        ("rows", ROWS),
+        ("beyond", BEYOND_RANGE),
+        ("order", OTHER_ORDER),
+        ("no_column", NO_COLUMN),
+        ("short_row", SHORT_ROW),
+        ("tool", FROM_A_TOOL),
     ] {
         files.push(stored(alloc, name, text)?)?;
     }
@@ -90,6 +109,28 @@ fn answers_in_the_order_of_refusals(rt: HostRuntime) -> Result<(), Fail> {
             "",
             "no_output: refused\n",
         ),
+        (["run", "A", "rows"].as_slice(), 0, "s\n5\n1010\n", ""),
+        (["run", "A", "beyond"].as_slice(), 0, "s\n1001\n", ""),
+        (["run", "A", "order"].as_slice(), 0, "s\n2\n", ""),
+        (
+            ["run", "A", "no_column"].as_slice(),
+            4,
+            "",
+            "row 0: missing b\n",
+        ),
+        (
+            ["run", "A", "short_row"].as_slice(),
+            4,
+            "s\n1\n",
+            "row 2: bad width\n",
+        ),
+        (
+            ["run", "A", "tool"].as_slice(),
+            4,
+            "s\n4\n",
+            "row 2: b: out of type\n",
+        ),
+        (["run", "A", "none"].as_slice(), 4, "", "row 0: no header\n"),
         (["check", "A"].as_slice(), 1, "", USAGE),
         (["--help"].as_slice(), 1, "", USAGE),
         (["run", "-x", "y"].as_slice(), 1, "", USAGE),

@@ -1,21 +1,22 @@
 // The program's one call.
 ghost use Rattle.std.specs.Prelude.{◌≡◌, ℕ, List, ◌≤◌, ◌⊎◌, Contains, Some, None};
 ghost use Rattle.std.specs.Option.{ForSome};
-ghost use Rattle.bench_core.specs.Requests.{request_of, request_seen, files_of, check_words, PrintsUnread};
+ghost use Rattle.bench_core.specs.Requests.{request_of, request_seen, files_of, check_words, run_words, PrintsUnread};
 ghost use Rattle.bench_core.specs.HowItEnds.{Ends, HasEndingCause, WhereUnread, WritesFront};
 ghost use Rattle.bench_core.specs.WholeAnswer.{answer_of, request_answer, HasAnswerCause};
-ghost use Rattle.bench_core.specs.Clauses.{Answers, IsSteady, HasReadText, HasWriteText, SaysFront, HasUsageText, Certifies};
+ghost use Rattle.bench_core.specs.Clauses.{Answers, IsSteady, HasReadText, HasWriteText, SaysFront, HasUsageText, Certifies, Runs};
 
 use super::checking::check;
 use super::commands::{Command, command_of};
 use super::endings::{Ending, finish};
+use super::running::run;
 use super::word_list::Words;
 use fx_io::{Shelf, Sink};
 use std::alloc::Global;
 
 /// Does what the words ask for, over these files and sinks, and gives the status: 0 where the work
 /// is done, 1 where the words are outside the grammar, 2 where the shelf fails on a file, 3 where
-/// the network is refused, 5 where the certificate is, 6 where it isn't accepted, 7 where `out`
+/// the network is refused, 4 where a recording or one of its rows is, 5 where the certificate is, 6 where it isn't accepted, 7 where `out`
 /// fails, 8 where memory runs out, 9 where a file is too long. At each status but 0 it says one
 /// line on `err`.
 pub fn bench<S: Shelf, O: Sink, E: Sink>(
@@ -61,6 +62,11 @@ pub fn bench<S: Shelf, O: Sink, E: Sink>(
     ensures accepted { ForSome (S.files shelf.old) (λ files. result ≡ 0 →
         (net cert : List ℕ) → words.now ≡ check_words net cert →
         Certifies files net cert (O.written out.old) (O.written out.new)) }
+
+    // A printed run is the network's meaning, row by row.
+    ensures ran { ForSome (S.files shelf.old) (λ files. result ≡ 0 →
+        (net rec : List ℕ) → words.now ≡ run_words net rec →
+        Runs files net rec (O.written out.old) (O.written out.new)) }
 {
     let ending = answer(alloc, words, shelf, out);
     finish(&ending, err)
@@ -107,5 +113,6 @@ fn perform<S: Shelf, O: Sink>(
 {
     match command {
         Command::Check { net, cert } => check(alloc, net, cert, shelf, out),
+        Command::Run { net, rec } => run(alloc, net, rec, shelf, out),
     }
 }

@@ -3,6 +3,7 @@ use Rattle.bench_core.specs.Requests.{request_of, PrintsUnread}
 use Rattle.bench_core.specs.WholeAnswer.{answer_of}
 use Rattle.bench_core.proofs.ClauseLaws.{prints_front, says_read, says_unread, says_front, says_usage, prints_all}
 use Rattle.bench_core.proofs.HeadlineLaws.{certifies_done}
+use Rattle.bench_core.proofs.RunHeadline.{runs_done}
 use Rattle.bench_core.proofs.top.bench.Goals as goal
 
 pub returns-clause-front : goal.returns-clause-front
@@ -28,3 +29,7 @@ returns-clause-usage g c e =
 pub returns-clause-accepted : goal.returns-clause-accepted
 returns-clause-accepted g c x t e net cert w =
     certifies_done x c.args.words.now net cert (g.O.Sink.written c.args.out.now) (g.O.Sink.written c.answer-ending.new.out) w (prints_all (answer_of c.args.words.now x) (g.S.Shelf.failed c.answer-ending.new.shelf) (g.O.Sink.written c.args.out.now) (g.O.Sink.written c.answer-ending.new.out) c.answer-ending.result (g.E.Sink.written c.args.err.now) (g.E.Sink.written c.finish.new.err) (g.E.Sink.faults c.args.err.now) (g.E.Sink.faults c.finish.new.err) c.finish.result (c.answer-ending.ensures.told x t) c.finish.ensures e)
+
+pub returns-clause-ran : goal.returns-clause-ran
+returns-clause-ran g c x t e net rec w =
+    runs_done x c.args.words.now net rec (g.O.Sink.written c.args.out.now) (g.O.Sink.written c.answer-ending.new.out) w (prints_all (answer_of c.args.words.now x) (g.S.Shelf.failed c.answer-ending.new.shelf) (g.O.Sink.written c.args.out.now) (g.O.Sink.written c.answer-ending.new.out) c.answer-ending.result (g.E.Sink.written c.args.err.now) (g.E.Sink.written c.finish.new.err) (g.E.Sink.faults c.args.err.now) (g.E.Sink.faults c.finish.new.err) c.finish.result (c.answer-ending.ensures.told x t) c.finish.ensures e)

@@ -1,0 +1,37 @@
+-- What `run NET REC` does, in the order of its refusals.
+use Rattle.std.specs.Prelude.{ℕ, Bool, true, false, List, [], ℤ, Option, Some, None}
+use Rattle.net_model.specs.Wires.{NetData}
+use Rattle.net_meaning.specs.Blocks.{machine}
+use Rattle.net_meaning.specs.Runs.{table}
+use Rattle.rec_csv.specs.Recordings.{Recording, RecordingFault, recording_of}
+use Rattle.bench_core.specs.Outcomes.{Outcome, done, refused, printed, reading}
+use Rattle.bench_core.specs.RecordingTexts.{recording_refused}
+use Rattle.bench_core.specs.CheckAnswer.{file_read, network_read}
+use Rattle.bench_core.specs.PrintedRuns.{run_text}
+
+-- the most bytes of a recording
+abbrev pub recording_limit : ℕ
+recording_limit = 67108864
+
+-- what is printed of a recording's rows; without a header nothing is
+abbrev pub run_printed : NetData → Bool → List (List ℤ) → List ℕ
+run_printed net false rows = []
+run_printed net true rows = run_text net (table machine net.wires rows)
+
+-- how a recording ends: read out, or refused
+abbrev pub recording_end : NetData → Option RecordingFault → Outcome
+recording_end net None = done
+recording_end net (Some fault) = refused (recording_refused net.wires fault)
+
+-- the steps, the last first
+unfoldable pub run_recording : NetData → Recording → Outcome
+run_recording net r = printed (run_printed net r.is_headed r.rows) (recording_end net r.fault)
+
+unfoldable pub run_bytes : NetData → List ℕ → Outcome
+run_bytes net bytes = run_recording net (recording_of net.wires bytes)
+
+unfoldable pub run_network : List (List ℕ × List ℕ) → List ℕ → NetData → Outcome
+run_network files rec net = reading rec (file_read files rec recording_limit) (run_bytes net)
+
+unfoldable pub run_answer : List (List ℕ × List ℕ) → List ℕ → List ℕ → Outcome
+run_answer files net rec = reading net (network_read files net) (run_network files rec)
