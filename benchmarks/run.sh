@@ -1,0 +1,112 @@
+#!/usr/bin/env bash
+# Prints how long `run` takes on a recording of a million rows, beside mawk and a plain C program that do the same work, and how
+# much memory it takes. It is no test. The turns are interleaved, and the figures are those of the best, with each program's start
+# in them: benchmarks/run.sh [PROGRAM [ROWS [TURNS]]].
+set -u
+top=$(cd "$(dirname "$0")/.." && pwd)
+program=${1:-$top/crates/bench_cli/out/bench_cli}
+rows=${2:-1000000}
+turns=${3:-7}
+network=$top/examples/sum.net
+if [ ! -x "$program" ]; then echo "there is no program at $program" >&2; exit 2; fi
+program=$(cd "$(dirname "$program")" && pwd)/$(basename "$program")
+work=$(mktemp -d) || exit 2
+trap 'rm -rf "$work"' EXIT
+cd "$work" || exit 2
+
+# The recording `t,a,b`: the same rows each time, from two draws of a generator that every awk computes exactly. The values lie
+# in the declared ranges.
+awk -v rows="$rows" 'BEGIN {
+  print "t,a,b"; x = 1
+  for (i = 0; i < rows; i++) {
+    x = x * 16807 % 2147483647; a = x % 1001
+    x = x * 16807 % 2147483647; b = x % 321 - 160
+    printf "%d.%03d,%d,%d\n", int(i / 1000), i % 1000, a, b
+  }
+}' >rows.csv || exit 2
+
+# The same work in mawk: b is divided by 16, rounded toward zero, and the sum saturates.
+sums='NR == 1 { print "s"; next } { s = $2 + int($3 / 16); if (s > 32767) s = 32767; else if (s < -32768) s = -32768; print s }'
+
+# And in C, as one writes it in an afternoon: no column is looked up, no number is checked, and `printf` prints.
+cat >sums.c <<'C'
+#include <stdio.h>
+#include <stdlib.h>
+#include <string.h>
+
+int main(int count, char **words) {
+    FILE *rows = count == 2 ? fopen(words[1], "r") : NULL;
+    char *line = NULL;
+    size_t room = 0;
+    if (rows == NULL || getline(&line, &room, rows) < 0) return 2;
+    puts("s");
+    while (getline(&line, &room, rows) > 0) {
+        char *a = strchr(line, ',');
+        char *b = a == NULL ? NULL : strchr(a + 1, ',');
+        if (b == NULL) return 4;
+        long sum = strtol(a + 1, NULL, 10) + strtol(b + 1, NULL, 10) / 16;
+        if (sum > 32767) sum = 32767;
+        if (sum < -32768) sum = -32768;
+        printf("%ld\n", sum);
+    }
+    free(line);
+    return fclose(rows) == 0 && fflush(stdout) == 0 ? 0 : 2;
+}
+C
+
+run_bench() { "$program" run "$network" rows.csv; }
+run_mawk() { mawk -F, "$sums" rows.csv; }
+run_c() { ./sums rows.csv; }
+
+kinds=(bench)
+if command -v mawk >/dev/null; then kinds+=(mawk); else echo 'mawk is not installed, so it is left out'; fi
+if command -v gcc >/dev/null && gcc -O2 -o sums sums.c; then kinds+=(c); else echo 'gcc is not installed, so the C program is left out'; fi
+
+echo "$rows rows, $(wc -c <rows.csv) bytes, the best of $turns turns"
+
+# What they print, once.
+for kind in "${kinds[@]}"; do "run_$kind" >"$kind.out" || { echo "$kind ended with status $?" >&2; exit 2; }; done
+for kind in "${kinds[@]:1}"; do
+  if cmp -s bench.out "$kind.out"; then echo "bench and $kind print the same"; else echo "bench and $kind DIFFER"; fi
+done
+
+declare -A least
+for _ in $(seq "$turns"); do
+  for kind in "${kinds[@]}"; do
+    before=$(date +%s%N)
+    "run_$kind" >/dev/null
+    after=$(date +%s%N)
+    if [ -z "${least[$kind]:-}" ] || [ $((after - before)) -lt "${least[$kind]}" ]; then least[$kind]=$((after - before)); fi
+  done
+done
+
+for kind in "${kinds[@]}"; do
+  printf '%-6s %d.%03d s, %d ns a row' "$kind" $((least[$kind] / 1000000000)) $((least[$kind] / 1000000 % 1000)) $((least[$kind] / rows))
+  if [ "$kind" != bench ]; then
+    hundredths=$((100 * least[bench] / least[$kind]))
+    printf '; bench takes %d.%02d times as long' $((hundredths / 100)) $((hundredths % 100))
+  fi
+  printf '\n'
+done
+
+# The greatest memory that a process held, in KiB: what GNU time tells, or else what the kernel told last before its end.
+peak_by_time() { /usr/bin/time -f %M -o peak "$@" >/dev/null && tail -n 1 peak; }
+peak_by_loop() {
+  local peak=0 now process
+  "$@" >/dev/null &
+  process=$!
+  while now=$(awk '/^VmHWM/ { print $2 }' "/proc/$process/status" 2>/dev/null) && [ -n "$now" ]; do peak=$now; done
+  wait "$process"
+  echo "$peak"
+}
+peak=peak_by_loop
+told='VmHWM of /proc, read in a loop'
+if /usr/bin/time -f %M -o peak true 2>/dev/null; then peak=peak_by_time; told='GNU time'; fi
+echo "peak memory in KiB, by $told:"
+printf '%-6s %s\n' bench "$("$peak" "$program" run "$network" rows.csv)"
+for kind in "${kinds[@]:1}"; do
+  case $kind in
+    mawk) printf '%-6s %s\n' mawk "$("$peak" mawk -F, "$sums" rows.csv)" ;;
+    c) printf '%-6s %s\n' c "$("$peak" ./sums rows.csv)" ;;
+  esac
+done
