@@ -1,7 +1,7 @@
 #!/usr/bin/env bash
 # Prints how long `run` takes on a recording of a million rows, beside mawk and a plain C program that do the same work, and how
-# much memory it takes. It is no test. The turns are interleaved, and the figures are those of the best, with each program's start
-# in them: benchmarks/run.sh [PROGRAM [ROWS [TURNS]]].
+# much memory it takes; and then on products and quotients of each width. It is no test. The turns are interleaved, and the figures
+# are those of the best, with each program's start in them: benchmarks/run.sh [PROGRAM [ROWS [TURNS]]].
 set -u
 top=$(cd "$(dirname "$0")/.." && pwd)
 program=${1:-$top/crates/bench_cli/out/bench_cli}
@@ -70,16 +70,22 @@ for kind in "${kinds[@]:1}"; do
   if cmp -s bench.out "$kind.out"; then echo "bench and $kind print the same"; else echo "bench and $kind DIFFER"; fi
 done
 
+# take_turns KIND..: the nanoseconds of the best turn of each kind, in `least`
 declare -A least
-for _ in $(seq "$turns"); do
-  for kind in "${kinds[@]}"; do
-    before=$(date +%s%N)
-    "run_$kind" >/dev/null
-    after=$(date +%s%N)
-    if [ -z "${least[$kind]:-}" ] || [ $((after - before)) -lt "${least[$kind]}" ]; then least[$kind]=$((after - before)); fi
+take_turns() {
+  local kind before after
+  least=()
+  for _ in $(seq "$turns"); do
+    for kind in "$@"; do
+      before=$(date +%s%N)
+      "run_$kind" >/dev/null
+      after=$(date +%s%N)
+      if [ -z "${least[$kind]:-}" ] || [ $((after - before)) -lt "${least[$kind]}" ]; then least[$kind]=$((after - before)); fi
+    done
   done
-done
+}
 
+take_turns "${kinds[@]}"
 for kind in "${kinds[@]}"; do
   printf '%-6s %d.%03d s, %d ns a row' "$kind" $((least[$kind] / 1000000000)) $((least[$kind] / 1000000 % 1000)) $((least[$kind] / rows))
   if [ "$kind" != bench ]; then
@@ -110,3 +116,72 @@ for kind in "${kinds[@]:1}"; do
     c) printf '%-6s %s\n' c "$("$peak" ./sums rows.csv)" ;;
   esac
 done
+
+# ---- products and quotients
+
+# numbers BITS: the recording `t,x,y` of signed words of so many bits. x goes over all of them (at 32 bits over every second one)
+# and y over those of half the width, 0 among them, so that products saturate and quotients have a zero divisor now and then.
+numbers() {
+  awk -v rows="$rows" -v bits="$1" 'BEGIN {
+    print "t,x,y"; draw = 1
+    for (i = 0; i < rows; i++) {
+      draw = draw * 16807 % 2147483647; x = bits == 32 ? (draw - 1073741824) * 2 : draw % 2 ^ bits - 2 ^ (bits - 1)
+      draw = draw * 16807 % 2147483647; y = draw % 2 ^ (bits / 2 + 1) - 2 ^ (bits / 2)
+      printf "%d.%03d,%.0f,%.0f\n", int(i / 1000), i % 1000, x, y
+    }
+  }' >numbers.csv
+}
+
+# network FILE TYPE LINE..: a network of x and y of the type, with the lines
+network() {
+  local file=$1
+  printf '%s\n' 'net 1' "in x $2 0 1" "in y $2 0 1" "${@:3}" >"$file"
+}
+
+# The same work in mawk, whose numbers are doubles: products that they don't hold saturate all the same, and quotients of two
+# words are cut off where they should be. 0 is added lest -0 is printed.
+products='NR == 1 { print "p,q"; next } {
+  p = $2 * $3; if (p > greatest) p = greatest; else if (p < least) p = least
+  if ($3 == 0) q = $2 < 0 ? least : greatest; else q = int($2 / $3)
+  if (q > greatest) q = greatest
+  printf "%.0f,%.0f\n", p + 0, q + 0
+}'
+
+run_products() { "$program" run products.net numbers.csv; }
+run_products_in_mawk() { mawk -F, -v least="$least_word" -v greatest="$greatest_word" "$products" numbers.csv; }
+run_thirds() { "$program" run thirds.net numbers.csv; }
+run_sums() { "$program" run sums.net numbers.csv; }
+
+# row TITLE KIND [KIND]: the nanoseconds of a row of the recording, by bench and by mawk; and whether they print the same
+row() {
+  local title=$1 kind by_mawk=-
+  shift
+  for kind in "$@"; do
+    "run_$kind" >"$kind.out" 2>"$kind.err" || { echo "$title: $kind ended with status $?: $(head -n 1 "$kind.err")" >&2; exit 2; }
+  done
+  take_turns "$@"
+  if [ $# = 2 ]; then
+    by_mawk=$((least[$2] / rows))
+    if ! cmp -s "$1.out" "$2.out"; then by_mawk+='; they DIFFER'; fi
+  fi
+  printf '%-32s %6d %6s\n' "$title" $((least[$1] / rows)) "$by_mawk"
+}
+
+echo "nanoseconds a row, of $rows rows of two words:"
+printf '%-32s %6s %6s\n' '' bench mawk
+for bits in 8 16 32; do
+  numbers "$bits"
+  word=s$bits
+  network products.net "$word" "wire p $word = Mfx_Mul_$word${word}_$word x y" "wire q $word = Mfx_Div_$word${word}_$word x y" 'out p' 'out q'
+  greatest_word=$(((1 << (bits - 1)) - 1))
+  least_word=$((-greatest_word - 1))
+  both=(products)
+  if command -v mawk >/dev/null; then both+=(products_in_mawk); fi
+  row "product and quotient of $word" "${both[@]}"
+done
+
+# Doubles don't hold each product before it is divided, so bench stands alone there; and its sum of the same words, to compare.
+network thirds.net s32 'wire p s32 = Mfx_MulDiv_s32s32s32_s32 x x y' 'out p'
+network sums.net s32 'wire p s32 = Mfx_Add_s32s32_s32 x y' 'out p'
+row 'product over a third of s32' thirds
+row 'sum of s32' sums
