@@ -3,3 +3,4 @@ pub mod Integers
 pub mod RoundingLaws
 pub mod TypeLaws
 mod Words
+pub mod RoundedFractions

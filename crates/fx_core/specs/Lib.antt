@@ -1,3 +1,4 @@
 pub mod Rounding
 pub mod Types
 pub mod Values
+pub mod FractionLaws

@@ -2,12 +2,14 @@
 // and saturation.
 #![tactic(auto)]
 
+mod fraction_laws;
 mod native;
 mod quotient;
 #[cfg(test)]
 mod tests;
 mod word_type;
 
+pub use crate::fraction_laws::laws_of_fractions;
 pub use crate::native::FxInt;
 pub use crate::quotient::{Mode, ceil_div, law_of_rounding, round, shift_round};
 pub use crate::word_type::{Ty, sat};
