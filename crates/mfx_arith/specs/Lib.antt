@@ -2,3 +2,5 @@ pub mod Operations
 pub mod Formulas
 pub mod Calls
 pub mod Integers
+pub mod Names
+pub mod NameParts

@@ -4,6 +4,7 @@ ghost use Rattle.std.specs.Prelude.{◌≡◌, ◌↔◌, IfSome, IsSome, IsTrue
 ghost use Rattle.fx_core.specs.Types.{width_of};
 ghost use Rattle.mfx_arith.specs.Operations.{Takes, variant};
 
+use crate::shapes::{fits, shape_of};
 use fx_core::Ty;
 
 /// An operation of Mfx arithmetic, on raw counts. The arguments are `x`, `y`, `z` in their order;
@@ -89,19 +90,5 @@ impl Variant {
 pub fn takes(op: ArithOp, v: Variant) -> bool
     ensures { IsTrue result ↔ Takes op v }
 {
-    match op {
-        ArithOp::Add
-        | ArithOp::Sub
-        | ArithOp::AbsDiff
-        | ArithOp::Mul
-        | ArithOp::Div
-        | ArithOp::Mod
-        | ArithOp::MulDiv
-        | ArithOp::MulShRight
-        | ArithOp::DivShLeft => v.x.width() == v.y.width(),
-        ArithOp::Abs => v.x == v.y,
-        ArithOp::Limit | ArithOp::Min | ArithOp::Max | ArithOp::RateLimiter => {
-            v.x == v.y && v.y == v.o
-        }
-    }
+    fits(shape_of(op), v)
 }
