@@ -251,6 +251,9 @@ le_lt_512 n h = omega arith
 pub few_wires : (wires : List Wire) (outs : List WireNo) → true ≡ is_valid (record { wires = wires; outs = outs }) → length wires < 2 ^ 32
 few_wires wires outs valid = le_lt_512 (length wires) (length-valid (record { wires = wires; outs = outs }) (sym valid))
 
+pub few_valid : (net : NetData) → IsValid net → length net.wires < 2 ^ 32
+few_valid net valid = le_lt_512 (length net.wires) (length-valid net valid)
+
 pub few_parts : (net : NetData) → IsValid net → length (parts_of net.wires) < 2 ^ 32
 few_parts net valid = rw (length-parts_of net.wires) (le_lt_512 (length net.wires) (length-valid net valid))
 

@@ -1,15 +1,21 @@
 -- What a line that has no fault gives: a good wire of a fresh name, or an output that isn't one yet.
-use Rattle.std.proofs.Common.{◌≡◌, ℕ, suc, ◌+◌, ◌-◌, ◌*◌, Bool, true, false, not, ◌&&◌, ◌||◌, ◌==◌, cond, nat_le, nat_lt, List, [], ◌∷◌, length, take, drop, codes, bytes_eq, refl, sym, ap, subst, ◌∙◌, ℤ, int_le, Option, Some, None, Result, Ok, Err, arith}
-use Rattle.std.specs.Prelude.{ok_or, is_some, option_map, option_and_then}
+use Rattle.std.proofs.Common.{◌≡◌, ℕ, suc, ◌+◌, ◌-◌, ◌*◌, Bool, true, false, not, ◌&&◌, ◌||◌, ◌==◌, cond, nat_le, nat_lt, List, [], ◌∷◌, length, take, drop, codes, bytes_eq, refl, sym, ap, subst, ◌∙◌, ℤ, pos, negsuc, int_le, Option, Some, None, Result, Ok, Err, arith}
+use Rattle.std.specs.Prelude.{ok_or, is_some, option_map, option_and_then, slice_get, unsigned_abs, if◌then◌else◌}
 use Rattle.std.specs.Char.{is_ascii_digit}
 use Rattle.std.specs.List.{list_any, position_or_len}
+use Rattle.std.proofs.lemmas.Bool.{and_parts}
 use Rattle.std.proofs.lemmas.Bool.Decides.{nat_tests}
 use Rattle.text_words.specs.Names.{is_name}
 use Rattle.fx_core.specs.declared.word_type.Ty.{Ty}
 use Rattle.fx_core.specs.declared.word_type.Ty.TheVariants.{S16, S32}
 use Rattle.net_model.specs.declared.network.NetKind.{NetKind}
 use Rattle.net_model.specs.declared.network.NetKind.TheVariants.{BadLine, BadName, Repeated, BadType, UnknownRoutine, BadCount, UnknownName, LaterWire, TypeDiffers, OutOfRange, TooMany}
-use Rattle.net_model.specs.declared.first.ArithOp.TheVariants.{Add}
+use Rattle.mfx_arith.specs.declared.operation.ArithOp.{ArithOp}
+use Rattle.mfx_arith.specs.declared.operation.ArithOp.TheVariants.{MulShRight, DivShLeft}
+use Rattle.mfx_arith.specs.declared.operation.Variant.{Variant}
+use Rattle.mfx_arith.specs.Operations.{argument_types}
+use Rattle.mfx_arith.specs.NameParts.{named}
+use Rattle.mfx_arith.proofs.NameLaws.{named_gives}
 use Rattle.net_model.specs.declared.first.ScaledOp.TheVariants.{Convert}
 use Rattle.net_model.specs.declared.wires.WireNo.{WireNo}
 use Rattle.net_model.specs.declared.wires.Kind.{Kind}
@@ -19,13 +25,16 @@ use Rattle.net_model.specs.declared.wires.Item.TheVariants.{Input, Const, Block 
 use Rattle.net_model.specs.declared.wires.Wire.{Wire}
 use Rattle.net_model.specs.declared.routine_word.Routine.{Routine}
 use Rattle.net_model.specs.declared.routine_word.Routine.TheVariants.{ArithOf, ScaledOf}
+use Rattle.net_model.specs.declared.routine_word.Arguments.{Arguments}
 use Rattle.net_model.specs.declared.line_forms.Content.{Content}
 use Rattle.net_model.specs.Wires.{wire_at}
-use Rattle.net_model.specs.Validity.{same_ty, is_built_ty, is_good_kind, kind_holds, is_number_of, is_good_item}
+use Rattle.net_model.specs.Built.{same_ty, takes_types, is_built_ty, is_shift}
+use Rattle.net_model.specs.Validity.{is_good_kind, kind_holds, is_number_of, is_given, is_good_item}
 use Rattle.net_model.specs.TypeWords.{ty_of, ty_len, one_digit, two_digits, digit_value, point_of_word, number_kind_of, kind_of}
-use Rattle.net_model.specs.RoutineWords.{variant, routine_of, arity_of, variant_of, block_of}
-use Rattle.net_model.specs.Forms.{◌>>=◌, demand, place_of, is_wire, is_known, are_known, axis_passes, is_type, last_argument, reached, fresh, has_room, number_at, range_of, value_of, kind_at, output_of, takes, in_line, const_line, wire_line, is_output, out_line, defining_line}
+use Rattle.net_model.specs.RoutineWords.{variant, conversion_named, arith_or, named_routine, is_built_routine, if_built, routine_of, arity_of, is_shifting, variant_of, block_of}
+use Rattle.net_model.specs.Forms.{◌>>=◌, demand, place_of, is_wire, is_known, are_known, axis_passes, is_type, type_at, is_typed, argument_word, argument_at, arguments_of, places_at, shift_of, words_wanted, reached, fresh, has_room, number_at, range_of, value_of, kind_at, output_of, takes, in_line, const_line, wire_line, is_output, out_line, defining_line}
 use Rattle.text_words.specs.Lines.{nth}
+use Rattle.net_model.proofs.BuiltFacts.{test_from_takes}
 
 -- ---- tests
 
@@ -145,32 +154,62 @@ kind_good word kind h =
 
 -- ---- routines
 
--- the types of a routine that is built
-abbrev pub is_built : Routine → Bool
-is_built routine = is_built_ty (variant_of routine).x && same_ty (variant_of routine).x (variant_of routine).y && is_built_ty (variant_of routine).o
+-- there is a routine of these types
+abbrev pub has_types : Routine → Bool
+has_types (ArithOf op v) = takes_types op v
+has_types (ScaledOf op v) = is_built_ty v.x && same_ty v.x v.y && is_built_ty v.o
 
--- a name more, of a routine that is built
-built_or : (b : Bool) (first : Routine) (others : Option Routine) → is_built first ≡ true → ((r : Routine) → others ≡ Some r → is_built r ≡ true) → (r : Routine) → cond b (Some first) others ≡ Some r → is_built r ≡ true
-built_or true first others good rest r h = let same : first ≡ r = cc in subst (λ r. is_built r ≡ true) same good
-built_or false first others good rest r h = rest r h
+-- a name more, of a routine of its types
+typed_or : (b : Bool) (first : Routine) (others : Option Routine) → has_types first ≡ true → ((r : Routine) → others ≡ Some r → has_types r ≡ true) → (r : Routine) → cond b (Some first) others ≡ Some r → has_types r ≡ true
+typed_or true first others good rest r h = let same : first ≡ r = cc in subst (λ r. has_types r ≡ true) same good
+typed_or false first others good rest r h = rest r h
 
 -- no name is left
-none_built : (r : Routine) → None ≡ Some r → is_built r ≡ true
-none_built r h = cc
+none_named : (r : Routine) → None ≡ Some r → has_types r ≡ true
+none_named r h = cc
+
+-- a conversion's name is read as one of its types
+conversion_typed : (word : List ℕ) (routine : Routine) → conversion_named word ≡ Some routine → has_types routine ≡ true
+unfolding conversion_named
+conversion_typed word =
+    typed_or (bytes_eq word (codes "Mfx_ConvertP2_s16_s16")) (ScaledOf Convert (variant S16 S16)) _ refl
+    (typed_or (bytes_eq word (codes "Mfx_ConvertP2_s16_s32")) (ScaledOf Convert (variant S16 S32)) _ refl
+    (typed_or (bytes_eq word (codes "Mfx_ConvertP2_s32_s16")) (ScaledOf Convert (variant S32 S16)) _ refl
+    (typed_or (bytes_eq word (codes "Mfx_ConvertP2_s32_s32")) (ScaledOf Convert (variant S32 S32)) _ refl
+    none_named)))
+
+-- an operation and types that it takes, or another routine
+arith_typed : (found : Option (ArithOp × Variant)) (other : Option Routine) → ((op : ArithOp) (v : Variant) → found ≡ Some (op, v) → takes_types op v ≡ true) → ((r : Routine) → other ≡ Some r → has_types r ≡ true) → (routine : Routine) → arith_or found other ≡ Some routine → has_types routine ≡ true
+arith_typed None other taken rest routine h = rest routine h
+arith_typed (Some (op, v)) other taken rest routine h =
+    let same : ArithOf op v ≡ routine = cc in subst (λ r. has_types r ≡ true) same (taken op v refl)
+
+-- a name is read as a routine of its types
+named_typed : (word : List ℕ) (routine : Routine) → named_routine word ≡ Some routine → has_types routine ≡ true
+unfolding named_routine
+named_typed word =
+    arith_typed (named word) (conversion_named word) (λ op v e. test_from_takes op v (named_gives word op v e).0) (conversion_typed word)
+
+-- a routine that is built, of its types
+pub record IsBuilt (routine : Routine) : Type 0 where
+  pub built : is_built_routine routine ≡ true
+  pub typed : has_types routine ≡ true
+
+built_found : (r routine : Routine) (built : Bool) → is_built_routine r ≡ built → has_types r ≡ true → cond built (Some r) None ≡ Some routine → IsBuilt routine
+built_found r routine true e typed h =
+    let same : r ≡ routine = cc in
+    let first : IsBuilt r = record { built = e; typed = typed } in
+    subst (λ s. IsBuilt s) same first
+built_found r routine false e typed h = cc
+
+built_named : (found : Option Routine) (routine : Routine) → ((r : Routine) → found ≡ Some r → has_types r ≡ true) → option_and_then if_built found ≡ Some routine → IsBuilt routine
+built_named None routine typed h = cc
+built_named (Some r) routine typed h = built_found r routine (is_built_routine r) refl (typed r refl) h
 
 -- a name is read as a routine that is built
-routine_built : (word : List ℕ) (routine : Routine) → routine_of word ≡ Some routine → is_built routine ≡ true
+routine_built : (word : List ℕ) (routine : Routine) → routine_of word ≡ Some routine → IsBuilt routine
 unfolding routine_of
-routine_built word =
-    built_or (bytes_eq word (codes "Mfx_Add_s16s16_s16")) (ArithOf Add (variant S16 S16)) _ refl
-    (built_or (bytes_eq word (codes "Mfx_Add_s16s16_s32")) (ArithOf Add (variant S16 S32)) _ refl
-    (built_or (bytes_eq word (codes "Mfx_Add_s32s32_s16")) (ArithOf Add (variant S32 S16)) _ refl
-    (built_or (bytes_eq word (codes "Mfx_Add_s32s32_s32")) (ArithOf Add (variant S32 S32)) _ refl
-    (built_or (bytes_eq word (codes "Mfx_ConvertP2_s16_s16")) (ScaledOf Convert (variant S16 S16)) _ refl
-    (built_or (bytes_eq word (codes "Mfx_ConvertP2_s16_s32")) (ScaledOf Convert (variant S16 S32)) _ refl
-    (built_or (bytes_eq word (codes "Mfx_ConvertP2_s32_s16")) (ScaledOf Convert (variant S32 S16)) _ refl
-    (built_or (bytes_eq word (codes "Mfx_ConvertP2_s32_s32")) (ScaledOf Convert (variant S32 S32)) _ refl
-    none_built)))))))
+routine_built word routine h = built_named (named_routine word) routine (named_typed word) h
 
 -- ---- forms
 
@@ -267,16 +306,109 @@ const_good wires words content h =
 same_number : (n : ℕ) → (n == n) ≡ true
 same_number n = grind (arith, nat_tests)
 
--- a block of earlier wires of its types is good
-block_good : (wires : List Wire) (routine : Routine) (kind : Kind) (x y : ℕ) → is_built routine ≡ true → nat_lt x (length wires) ≡ true → nat_lt y (length wires) ≡ true → takes wires routine x y ≡ true → is_number_of (variant_of routine).o kind ≡ true → is_good_item wires (length wires) kind (OfBlock (block_of routine x y)) ≡ true
-block_good wires (ArithOf op v) kind x y built in_x in_y taken out =
-    let n = length wires in
-    let typed_x = first_of_both (is_number_of v.x (wire_at wires x).kind) (is_number_of v.y (wire_at wires y).kind) taken in
-    let typed_y = second_of_both (is_number_of v.x (wire_at wires x).kind) (is_number_of v.y (wire_at wires y).kind) taken in
-    true_if_both _ _ (true_if_both _ _ (true_if_both _ _ (true_if_both _ _ (true_if_both _ _ built (true_if_both _ _ in_x typed_x)) (true_if_both _ _ in_y typed_y)) (same_number x)) refl) out
-block_good wires (ScaledOf op v) kind x y built in_x in_y taken out =
-    let typed_x = first_of_both (is_number_of v.x (wire_at wires x).kind) (is_number_of v.y (wire_at wires y).kind) taken in
-    true_if_both _ _ (true_if_both _ _ (true_if_both _ _ built (true_if_both _ _ in_x typed_x)) (same_number x)) out
+-- an argument is an earlier wire of its type; one that the routine doesn't have repeats the first
+given_good : (wires : List Wire) (first a : WireNo) (ty : Option Ty) → nat_lt a.0 (length wires) ≡ true → is_typed wires ty a ≡ true → (ty ≡ None → a.0 ≡ first.0) → is_given wires (length wires) first ty a ≡ true
+given_good wires first a (Some ty) below typed repeats = true_if_both _ _ below typed
+given_good wires first a None below typed repeats = ap (λ n. n == first.0) (repeats refl) ∙ same_number first.0
+
+-- the wires that a line gives its routine
+record AreGiven (wires : List Wire) (routine : Routine) (given : Arguments) : Type 0 where
+  x_below : nat_lt given.x.0 (length wires) ≡ true
+  y_below : nat_lt given.y.0 (length wires) ≡ true
+  z_below : nat_lt given.z.0 (length wires) ≡ true
+  y_repeats : type_at routine 1 ≡ None → given.y.0 ≡ given.x.0
+  z_repeats : type_at routine 2 ≡ None → given.z.0 ≡ given.x.0
+
+-- what is found twice is one
+same_found : (m n : ℕ) → ◌≡◌ {A = Result ℕ NetKind} (Ok m) (Ok n) → m ≡ n
+same_found m n h = cc
+
+-- all three are found
+arguments_made : (wires : List Wire) (routine : Routine) (x y z : Result ℕ NetKind) (given : Arguments) → ((m : ℕ) → x ≡ Ok m → nat_lt m (length wires) ≡ true) → ((m : ℕ) → y ≡ Ok m → nat_lt m (length wires) ≡ true) → ((m : ℕ) → z ≡ Ok m → nat_lt m (length wires) ≡ true) → (type_at routine 1 ≡ None → y ≡ x) → (type_at routine 2 ≡ None → z ≡ x) → (x >>= λ k. y >>= λ m. z >>= λ n. Ok (record { x = record { 0 = k }; y = record { 0 = m }; z = record { 0 = n } })) ≡ Ok given → AreGiven wires routine given
+arguments_made wires routine (Err fault) y z given bx by bz ry rz h = cc
+arguments_made wires routine (Ok k) (Err fault) z given bx by bz ry rz h = cc
+arguments_made wires routine (Ok k) (Ok m) (Err fault) given bx by bz ry rz h = cc
+arguments_made wires routine (Ok k) (Ok m) (Ok n) given bx by bz ry rz h =
+    let made : Arguments = record { x = record { 0 = k }; y = record { 0 = m }; z = record { 0 = n } } in
+    let same : made ≡ given = cc in
+    let first : AreGiven wires routine made = record {
+      x_below = bx k refl;
+      y_below = by m refl;
+      z_below = bz n refl;
+      y_repeats = λ e. same_found m k (ry e);
+      z_repeats = λ e. same_found n k (rz e);
+    } in
+    subst (λ g. AreGiven wires routine g) same first
+
+-- a wire that is reached is there
+reached_below : (wires : List Wire) (name : List ℕ) (place : ℕ) → reached wires name ≡ Ok place → nat_lt place (length wires) ≡ true
+reached_below wires name place h = place_within wires name place (ok_or_ok (place_of wires name) LaterWire place h)
+
+-- the first argument's word, and the word of one that the routine doesn't have
+first_word : (words : List (List ℕ)) (ty : Option Ty) → argument_word words 0 ty ≡ nth words 5
+first_word words (Some ty) = refl
+first_word words None = refl
+
+missing_word : (words : List (List ℕ)) (p : ℕ) (ty first : Option Ty) → ty ≡ None → argument_word words p ty ≡ argument_word words 0 first
+missing_word words p ty first h = ap (argument_word words p) h ∙ sym (first_word words first)
+
+-- a line's arguments are there, and repeat the first where the routine doesn't have them
+arguments_good : (wires : List Wire) (routine : Routine) (words : List (List ℕ)) (given : Arguments) → arguments_of wires routine words ≡ Ok given → AreGiven wires routine given
+unfolding arguments_of
+arguments_good wires routine words given h =
+    arguments_made wires routine (reached wires (argument_at routine words 0)) (reached wires (argument_at routine words 1)) (reached wires (argument_at routine words 2)) given (reached_below wires (argument_at routine words 0)) (reached_below wires (argument_at routine words 1)) (reached_below wires (argument_at routine words 2)) (λ e. ap (reached wires) (missing_word words 1 (type_at routine 1) (type_at routine 0) e)) (λ e. ap (reached wires) (missing_word words 2 (type_at routine 2) (type_at routine 0) e)) h
+
+-- a count of places is at most 15
+small_places : (z : ℤ) → (int_le (pos 0) z && int_le z (pos 15)) ≡ true → nat_le (unsigned_abs z) 15 ≡ true
+small_places (pos n) h = second_of_both (int_le (pos 0) (pos n)) (int_le (pos n) (pos 15)) h
+small_places (negsuc n) h = cc
+
+places_in : (z : ℤ) (test : Bool) (sh : ℕ) → (int_le (pos 0) z && int_le z (pos 15)) ≡ test → (demand test OutOfRange >>= λ _. Ok (unsigned_abs z)) ≡ Ok sh → nat_le sh 15 ≡ true
+places_in z true sh e h = subst (λ n. nat_le n 15 ≡ true) (same_found (unsigned_abs z) sh h) (small_places z e)
+places_in z false sh e h = cc
+
+places_tests : (number : Result ℤ NetKind) (sh : ℕ) → (number >>= λ z. demand (int_le (pos 0) z && int_le z (pos 15)) OutOfRange >>= λ _. Ok (unsigned_abs z)) ≡ Ok sh → nat_le sh 15 ≡ true
+places_tests (Err fault) sh h = cc
+places_tests (Ok z) sh h = places_in z (int_le (pos 0) z && int_le z (pos 15)) sh refl h
+
+places_good : (word : List ℕ) (sh : ℕ) → places_at word ≡ Ok sh → nat_le sh 15 ≡ true
+unfolding places_at
+places_good word sh h = places_tests (number_at word) sh h
+
+-- a count of places is one of the routine
+abbrev pub has_places : Routine → ℕ → Bool
+has_places (ArithOf op v) sh = is_shift op sh
+has_places (ScaledOf op v) sh = true
+
+no_places : (sh : ℕ) → ◌≡◌ {A = Result ℕ NetKind} (Ok 0) (Ok sh) → (sh == 0) ≡ true
+no_places sh h = subst (λ n. (n == 0) ≡ true) (same_found 0 sh h) refl
+
+shift_tests : (routine : Routine) (found : Result ℕ NetKind) (sh : ℕ) → ((n : ℕ) → found ≡ Ok n → nat_le n 15 ≡ true) → (if is_shifting routine then found else Ok 0) ≡ Ok sh → has_places routine sh ≡ true
+shift_tests (ArithOf MulShRight v) found sh few h = few sh h
+shift_tests (ArithOf DivShLeft v) found sh few h = few sh h
+shift_tests (ArithOf other v) found sh few h = no_places sh h
+shift_tests (ScaledOf op v) found sh few h = refl
+
+shift_good : (routine : Routine) (words : List (List ℕ)) (sh : ℕ) → shift_of routine words ≡ Ok sh → has_places routine sh ≡ true
+unfolding shift_of
+shift_good routine words sh h =
+    shift_tests routine (places_at (nth words (5 + arity_of routine))) sh (places_good (nth words (5 + arity_of routine))) h
+
+-- a block of earlier wires of its types, with a count of places of its routine, is good
+block_good : (wires : List Wire) (routine : Routine) (kind : Kind) (given : Arguments) (sh : ℕ) → IsBuilt routine → AreGiven wires routine given → takes wires routine given ≡ true → has_places routine sh ≡ true → is_number_of (variant_of routine).o kind ≡ true → is_good_item wires (length wires) kind (OfBlock (block_of routine given sh)) ≡ true
+block_good wires (ArithOf op v) kind given sh r g taken places out =
+    let typed = and_parts _ _ taken in
+    let typed_xy = and_parts _ _ typed.0 in
+    let x_given = given_good wires given.x given.x (slice_get (argument_types op v) 0) g.x_below typed_xy.0 (λ _. refl) in
+    let y_given = given_good wires given.x given.y (slice_get (argument_types op v) 1) g.y_below typed_xy.1 g.y_repeats in
+    let z_given = given_good wires given.x given.z (slice_get (argument_types op v) 2) g.z_below typed.1 g.z_repeats in
+    true_if_both _ _ (true_if_both _ _ (true_if_both _ _ (true_if_both _ _ (true_if_both _ _ (true_if_both _ _ r.built r.typed) x_given) y_given) z_given) places) out
+block_good wires (ScaledOf Convert v) kind given sh r g taken places out =
+    let typed = and_parts _ _ taken in
+    let typed_xy = and_parts _ _ typed.0 in
+    let x_given = true_if_both _ _ g.x_below typed_xy.0 in
+    let y_given = given_good wires given.x given.y None g.y_below typed_xy.1 g.y_repeats in
+    true_if_both _ _ (true_if_both _ _ (true_if_both _ _ r.typed x_given) y_given) out
 
 -- the type word is of the type that the routine gives
 record IsOutput (routine : Routine) (word : List ℕ) (kind : Kind) : Type 0 where
@@ -302,67 +434,72 @@ output_good : (routine : Routine) (word : List ℕ) (kind : Kind) → output_of 
 unfolding output_of
 output_good routine word kind h = output_tests routine word (kind_of word) kind refl h
 
--- what a wire's line uses: a routine that is built, earlier wires of its types, and its output's type
-record IsUsed (wires : List Wire) (routine : Routine) (word : List ℕ) (kind : Kind) (x y : ℕ) : Type 0 where
-  pub built : is_built routine ≡ true
-  pub first : nat_lt x (length wires) ≡ true
-  pub last : nat_lt y (length wires) ≡ true
+-- what a wire's line uses: a routine that is built, earlier wires of its types, its output's type and a count of places
+record IsUsed (wires : List Wire) (routine : Routine) (word : List ℕ) (kind : Kind) (given : Arguments) (sh : ℕ) : Type 0 where
+  pub built : IsBuilt routine
+  pub earlier : AreGiven wires routine given
   pub output : IsOutput routine word kind
-  pub taken : takes wires routine x y ≡ true
+  pub taken : takes wires routine given ≡ true
+  pub places : has_places routine sh ≡ true
 
--- from the last test on
-wire_made : (wires : List Wire) (name word : List ℕ) (routine : Routine) (m n : ℕ) (k : Kind) (typed : Bool) (room : Result (Unit {0}) NetKind) (content : Content) → IsFresh wires name → (typed ≡ true → IsUsed wires routine word k m n) → ((done : Unit {0}) → room ≡ Ok done → nat_lt (length wires) 512 ≡ true) → (demand typed TypeDiffers >>= λ _. room >>= λ _. Ok (record { kind = k; item = OfBlock (block_of routine m n) })) ≡ Ok content → IsGood wires name content
-wire_made wires name word routine m n k false room content new used r h = cc
-wire_made wires name word routine m n k true (Err fault) content new used r h = cc
-wire_made wires name word routine m n k true (Ok done) content new used r h =
-    let u = used refl in
-    let made : Content = record { kind = k; item = OfBlock (block_of routine m n) } in
+-- from the count of places on
+wire_made : (wires : List Wire) (name word : List ℕ) (routine : Routine) (given : Arguments) (k : Kind) (shift : Result ℕ NetKind) (room : Result (Unit {0}) NetKind) (content : Content) → IsFresh wires name → ((sh : ℕ) → shift ≡ Ok sh → IsUsed wires routine word k given sh) → ((done : Unit {0}) → room ≡ Ok done → nat_lt (length wires) 512 ≡ true) → (shift >>= λ sh. room >>= λ _. Ok (record { kind = k; item = OfBlock (block_of routine given sh) })) ≡ Ok content → IsGood wires name content
+wire_made wires name word routine given k (Err fault) room content new used r h = cc
+wire_made wires name word routine given k (Ok sh) (Err fault) content new used r h = cc
+wire_made wires name word routine given k (Ok sh) (Ok done) content new used r h =
+    let u = used sh refl in
+    let made : Content = record { kind = k; item = OfBlock (block_of routine given sh) } in
     let same : made ≡ content = cc in
     let first : IsGood wires name made = record {
       named = new.named;
       fresh = new.fresh;
       room = r done refl;
       kind = kind_good word k u.output.found;
-      item = block_good wires routine k m n u.built u.first u.last u.taken u.output.typed;
+      item = block_good wires routine k given sh u.built u.earlier u.taken u.places u.output.typed;
     } in
     subst (λ c. IsGood wires name c) same first
 
+-- from the types on
+wire_typed : (wires : List Wire) (name word : List ℕ) (routine : Routine) (given : Arguments) (k : Kind) (typed : Bool) (shift : Result ℕ NetKind) (room : Result (Unit {0}) NetKind) (content : Content) → IsFresh wires name → ((sh : ℕ) → typed ≡ true → shift ≡ Ok sh → IsUsed wires routine word k given sh) → ((done : Unit {0}) → room ≡ Ok done → nat_lt (length wires) 512 ≡ true) → (demand typed TypeDiffers >>= λ _. shift >>= λ sh. room >>= λ _. Ok (record { kind = k; item = OfBlock (block_of routine given sh) })) ≡ Ok content → IsGood wires name content
+wire_typed wires name word routine given k false shift room content new used r h = cc
+wire_typed wires name word routine given k true shift room content new used r h =
+    wire_made wires name word routine given k shift room content new (λ sh. used sh refl) r h
+
 -- from the routine on
-wire_end : (wires : List Wire) (name word : List ℕ) (routine : Routine) (count known axis : Result (Unit {0}) NetKind) (x y : Result ℕ NetKind) (output : Result Kind NetKind) (typed : ℕ → ℕ → Bool) (room : Result (Unit {0}) NetKind) (content : Content) → IsFresh wires name → ((k : Kind) (m n : ℕ) → x ≡ Ok m → y ≡ Ok n → output ≡ Ok k → typed m n ≡ true → IsUsed wires routine word k m n) → ((done : Unit {0}) → room ≡ Ok done → nat_lt (length wires) 512 ≡ true) → (count >>= λ _. known >>= λ _. axis >>= λ _. x >>= λ m. y >>= λ n. output >>= λ k. demand (typed m n) TypeDiffers >>= λ _. room >>= λ _. Ok (record { kind = k; item = OfBlock (block_of routine m n) })) ≡ Ok content → IsGood wires name content
-wire_end wires name word routine (Err fault) known axis x y output typed room content new used r h = cc
-wire_end wires name word routine (Ok _) (Err fault) axis x y output typed room content new used r h = cc
-wire_end wires name word routine (Ok _) (Ok _) (Err fault) x y output typed room content new used r h = cc
-wire_end wires name word routine (Ok _) (Ok _) (Ok _) (Err fault) y output typed room content new used r h = cc
-wire_end wires name word routine (Ok _) (Ok _) (Ok _) (Ok m) (Err fault) output typed room content new used r h = cc
-wire_end wires name word routine (Ok _) (Ok _) (Ok _) (Ok m) (Ok n) (Err fault) typed room content new used r h = cc
-wire_end wires name word routine (Ok _) (Ok _) (Ok _) (Ok m) (Ok n) (Ok k) typed room content new used r h =
-    wire_made wires name word routine m n k (typed m n) room content new (λ t. used k m n refl refl refl t) r h
+wire_end : (wires : List Wire) (name word : List ℕ) (routine : Routine) (count known axis : Result (Unit {0}) NetKind) (found : Result Arguments NetKind) (output : Result Kind NetKind) (typed : Arguments → Bool) (shift : Result ℕ NetKind) (room : Result (Unit {0}) NetKind) (content : Content) → IsFresh wires name → ((given : Arguments) (k : Kind) (sh : ℕ) → found ≡ Ok given → output ≡ Ok k → typed given ≡ true → shift ≡ Ok sh → IsUsed wires routine word k given sh) → ((done : Unit {0}) → room ≡ Ok done → nat_lt (length wires) 512 ≡ true) → (count >>= λ _. known >>= λ _. axis >>= λ _. found >>= λ given. output >>= λ k. demand (typed given) TypeDiffers >>= λ _. shift >>= λ sh. room >>= λ _. Ok (record { kind = k; item = OfBlock (block_of routine given sh) })) ≡ Ok content → IsGood wires name content
+wire_end wires name word routine (Err fault) known axis found output typed shift room content new used r h = cc
+wire_end wires name word routine (Ok _) (Err fault) axis found output typed shift room content new used r h = cc
+wire_end wires name word routine (Ok _) (Ok _) (Err fault) found output typed shift room content new used r h = cc
+wire_end wires name word routine (Ok _) (Ok _) (Ok _) (Err fault) output typed shift room content new used r h = cc
+wire_end wires name word routine (Ok _) (Ok _) (Ok _) (Ok given) (Err fault) typed shift room content new used r h = cc
+wire_end wires name word routine (Ok _) (Ok _) (Ok _) (Ok given) (Ok k) typed shift room content new used r h =
+    wire_typed wires name word routine given k (typed given) shift room content new (λ sh. used given k sh refl refl) r h
 
 -- up to the routine
-wire_tests : (wires : List Wire) (name word : List ℕ) (form new type : Result (Unit {0}) NetKind) (found : Result Routine NetKind) (count known : Routine → Result (Unit {0}) NetKind) (axis : Result (Unit {0}) NetKind) (x : Result ℕ NetKind) (y : Routine → Result ℕ NetKind) (output : Routine → Result Kind NetKind) (typed : Routine → ℕ → ℕ → Bool) (room : Result (Unit {0}) NetKind) (content : Content) → ((done : Unit {0}) → new ≡ Ok done → IsFresh wires name) → ((routine : Routine) (k : Kind) (m n : ℕ) → found ≡ Ok routine → x ≡ Ok m → y routine ≡ Ok n → output routine ≡ Ok k → typed routine m n ≡ true → IsUsed wires routine word k m n) → ((done : Unit {0}) → room ≡ Ok done → nat_lt (length wires) 512 ≡ true) → (form >>= λ _. new >>= λ _. type >>= λ _. found >>= λ routine. count routine >>= λ _. known routine >>= λ _. axis >>= λ _. x >>= λ m. y routine >>= λ n. output routine >>= λ k. demand (typed routine m n) TypeDiffers >>= λ _. room >>= λ _. Ok (record { kind = k; item = OfBlock (block_of routine m n) })) ≡ Ok content → IsGood wires name content
-wire_tests wires name word (Err fault) new type found count known axis x y output typed room content f used r h = cc
-wire_tests wires name word (Ok _) (Err fault) type found count known axis x y output typed room content f used r h = cc
-wire_tests wires name word (Ok _) (Ok new) (Err fault) found count known axis x y output typed room content f used r h = cc
-wire_tests wires name word (Ok _) (Ok new) (Ok _) (Err fault) count known axis x y output typed room content f used r h = cc
-wire_tests wires name word (Ok _) (Ok new) (Ok _) (Ok routine) count known axis x y output typed room content f used r h =
-    wire_end wires name word routine (count routine) (known routine) axis x (y routine) (output routine) (typed routine) room content (f new refl) (λ k m n. used routine k m n refl) r h
+wire_tests : (wires : List Wire) (name word : List ℕ) (form new type : Result (Unit {0}) NetKind) (found : Result Routine NetKind) (count known : Routine → Result (Unit {0}) NetKind) (axis : Result (Unit {0}) NetKind) (arguments : Routine → Result Arguments NetKind) (output : Routine → Result Kind NetKind) (typed : Routine → Arguments → Bool) (shift : Routine → Result ℕ NetKind) (room : Result (Unit {0}) NetKind) (content : Content) → ((done : Unit {0}) → new ≡ Ok done → IsFresh wires name) → ((routine : Routine) (given : Arguments) (k : Kind) (sh : ℕ) → found ≡ Ok routine → arguments routine ≡ Ok given → output routine ≡ Ok k → typed routine given ≡ true → shift routine ≡ Ok sh → IsUsed wires routine word k given sh) → ((done : Unit {0}) → room ≡ Ok done → nat_lt (length wires) 512 ≡ true) → (form >>= λ _. new >>= λ _. type >>= λ _. found >>= λ routine. count routine >>= λ _. known routine >>= λ _. axis >>= λ _. arguments routine >>= λ given. output routine >>= λ k. demand (typed routine given) TypeDiffers >>= λ _. shift routine >>= λ sh. room >>= λ _. Ok (record { kind = k; item = OfBlock (block_of routine given sh) })) ≡ Ok content → IsGood wires name content
+wire_tests wires name word (Err fault) new type found count known axis arguments output typed shift room content f used r h = cc
+wire_tests wires name word (Ok _) (Err fault) type found count known axis arguments output typed shift room content f used r h = cc
+wire_tests wires name word (Ok _) (Ok new) (Err fault) found count known axis arguments output typed shift room content f used r h = cc
+wire_tests wires name word (Ok _) (Ok new) (Ok _) (Err fault) count known axis arguments output typed shift room content f used r h = cc
+wire_tests wires name word (Ok _) (Ok new) (Ok _) (Ok routine) count known axis arguments output typed shift room content f used r h =
+    wire_end wires name word routine (count routine) (known routine) axis (arguments routine) (output routine) (typed routine) (shift routine) room content (f new refl) (λ given k sh. used routine given k sh refl) r h
 
 -- what a wire's line uses is there and of its types
-used_good : (wires : List Wire) (words : List (List ℕ)) (routine : Routine) (k : Kind) (m n : ℕ) → ok_or (routine_of (nth words 4)) UnknownRoutine ≡ Ok routine → reached wires (nth words 5) ≡ Ok m → reached wires (last_argument routine words) ≡ Ok n → output_of routine (nth words 2) ≡ Ok k → takes wires routine m n ≡ true → IsUsed wires routine (nth words 2) k m n
-used_good wires words routine k m n found x y output typed =
+used_good : (wires : List Wire) (words : List (List ℕ)) (routine : Routine) (given : Arguments) (k : Kind) (sh : ℕ) → ok_or (routine_of (nth words 4)) UnknownRoutine ≡ Ok routine → arguments_of wires routine words ≡ Ok given → output_of routine (nth words 2) ≡ Ok k → takes wires routine given ≡ true → shift_of routine words ≡ Ok sh → IsUsed wires routine (nth words 2) k given sh
+used_good wires words routine given k sh found arguments output typed shift =
     record {
       built = routine_built (nth words 4) routine (ok_or_ok (routine_of (nth words 4)) UnknownRoutine routine found);
-      first = place_within wires (nth words 5) m (ok_or_ok (place_of wires (nth words 5)) LaterWire m x);
-      last = place_within wires (last_argument routine words) n (ok_or_ok (place_of wires (last_argument routine words)) LaterWire n y);
+      earlier = arguments_good wires routine words given arguments;
       output = output_good routine (nth words 2) k output;
       taken = typed;
+      places = shift_good routine words sh shift;
     }
 
 -- a wire of a routine is good
 wire_good : (lines : List (List ℕ)) (wires : List Wire) (words : List (List ℕ)) (content : Content) → wire_line lines wires words ≡ Ok content → IsGood wires (nth words 1) content
 unfolding wire_line
 wire_good lines wires words content h =
-    wire_tests wires (nth words 1) (nth words 2) (demand (nat_le 6 (length words) && bytes_eq (nth words 3) (codes "=")) BadLine) (fresh wires (nth words 1)) (demand (is_type (nth words 2)) BadType) (ok_or (routine_of (nth words 4)) UnknownRoutine) (λ routine. demand (length words == 5 + arity_of routine) BadCount) (λ routine. demand (are_known lines wires routine words) UnknownName) (demand (axis_passes (is_wire wires) (nth words 2)) LaterWire) (reached wires (nth words 5)) (λ routine. reached wires (last_argument routine words)) (λ routine. output_of routine (nth words 2)) (λ routine m n. takes wires routine m n) (has_room wires) content (λ done e. fresh_ok wires (nth words 1) done e) (λ routine k m n. used_good wires words routine k m n) (λ done e. demand_ok (nat_lt (length wires) 512) TooMany done e) h
+    wire_tests wires (nth words 1) (nth words 2) (demand (nat_le 6 (length words) && bytes_eq (nth words 3) (codes "=")) BadLine) (fresh wires (nth words 1)) (demand (is_type (nth words 2)) BadType) (ok_or (routine_of (nth words 4)) UnknownRoutine) (λ routine. demand (length words == words_wanted routine) BadCount) (λ routine. demand (are_known lines wires routine words) UnknownName) (demand (axis_passes (is_wire wires) (nth words 2)) LaterWire) (λ routine. arguments_of wires routine words) (λ routine. output_of routine (nth words 2)) (λ routine given. takes wires routine given) (λ routine. shift_of routine words) (has_room wires) content (λ done e. fresh_ok wires (nth words 1) done e) (λ routine given k sh. used_good wires words routine given k sh) (λ done e. demand_ok (nat_lt (length wires) 512) TooMany done e) h
 
 -- ---- any line that defines a wire
 

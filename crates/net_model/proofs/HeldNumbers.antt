@@ -1,12 +1,12 @@
 -- A number that is held in 64 bits passes the tests of a line exactly where the number that is written does.
 use Rattle.std.proofs.Common.{◌≡◌, ℕ, ◌-◌, ◌^◌, List, Bool, true, false, ◌&&◌, ap, ap₂, sym, ◌∙◌, refl, ℤ, pos, negsuc, ◌<ℤ◌, ◌≤ℤ◌, int_le, Option, Some, None, option_map, Result, Ok, arith}
-use Rattle.std.specs.Prelude.{ok_or}
+use Rattle.std.specs.Prelude.{ok_or, unsigned_abs}
 use Rattle.std.proofs.lemmas.Int.{ints}
 use Rattle.fx_core.specs.declared.word_type.Ty.{Ty}
 use Rattle.fx_core.specs.declared.word_type.Ty.TheVariants.{U8, S8, U16, S16, U32, S32}
 use Rattle.fx_core.specs.Types.{least_of, greatest_of}
 use Rattle.text_words.specs.Numbers.{number_of, held}
-use Rattle.text_words.proofs.Held.{held_least, held_most, held_inside}
+use Rattle.text_words.proofs.Held.{held_least, held_most, held_inside, held_between}
 use Rattle.net_model.specs.declared.network.NetKind.{NetKind}
 use Rattle.net_model.specs.declared.network.NetKind.TheVariants.{BadNumber, OutOfRange}
 use Rattle.net_model.specs.declared.wires.Kind.{Kind}
@@ -15,7 +15,7 @@ use Rattle.net_model.specs.declared.wires.Item.{Item}
 use Rattle.net_model.specs.declared.wires.Item.TheVariants.{Input, Const}
 use Rattle.net_model.specs.Wires.{kind_least, kind_greatest}
 use Rattle.net_model.specs.Validity.{kind_holds}
-use Rattle.net_model.specs.Forms.{◌>>=◌, demand, range_of, value_of}
+use Rattle.net_model.specs.Forms.{◌>>=◌, demand, range_of, value_of, places_at}
 
 -- the ends of a kind lie within 64 bits
 abbrev Ends : ℤ → ℤ → Type 0
@@ -115,3 +115,38 @@ value_from-held kind (Some z) =
 pub value_of_held : (kind : Kind) (word : List ℕ) → value_of kind word ≡ value_from kind (option_map held (number_of word))
 unfolding value_of
 value_of_held kind word = sym (value_from-held kind (number_of word))
+
+-- ---- a count of places
+
+-- the count that a number makes, if it is there
+abbrev places_from : Option ℤ → Result ℕ NetKind
+places_from number = do
+  sh ← ok_or number BadNumber
+  _ ← demand (int_le (pos 0) sh && int_le sh (pos 15)) OutOfRange
+  Ok (unsigned_abs sh)
+
+-- the test answers the same for what is held
+is_places-held : (z : ℤ) → (int_le (pos 0) (held z) && int_le (held z) (pos 15)) ≡ (int_le (pos 0) z && int_le z (pos 15))
+is_places-held z =
+    ap₂ (λ a b. a && b) (held_least (pos 0) z (omega (arith, ints)) (omega (arith, ints))) (held_most (pos 15) z (omega (arith, ints)) (omega (arith, ints)))
+
+-- a count of places is held as it is
+held_places : (z : ℤ) → (int_le (pos 0) z && int_le z (pos 15)) ≡ true → held z ≡ z
+held_places z h =
+    let p = both_hold (int_le (pos 0) (held z)) (int_le (held z) (pos 15)) (is_places-held z ∙ h) in
+    held_between (pos 0) (pos 15) z (omega (arith, ints)) (omega (arith, ints)) p.0 p.1
+
+places_test : (z held_z : ℤ) (a : Bool) → (int_le (pos 0) z && int_le z (pos 15)) ≡ a → (int_le (pos 0) held_z && int_le held_z (pos 15)) ≡ a → (a ≡ true → held_z ≡ z) → places_from (Some held_z) ≡ places_from (Some z)
+places_test z held_z true p q f = ap (λ l. places_from (Some l)) (f refl)
+places_test z held_z false p q f = rw (p, q)
+
+-- so the count is the same
+places_from-held : (number : Option ℤ) → places_from (option_map held number) ≡ places_from number
+places_from-held None = refl
+places_from-held (Some z) =
+    places_test z (held z) (int_le (pos 0) z && int_le z (pos 15)) refl (is_places-held z) (held_places z)
+
+-- a count read from what is held
+pub places_at_held : (word : List ℕ) → places_at word ≡ places_from (option_map held (number_of word))
+unfolding places_at
+places_at_held word = sym (places_from-held (number_of word))

@@ -1,6 +1,7 @@
 mod DraftLemmas
 mod NumberingLemmas
 mod RoutineLemmas
+pub mod BuiltFacts
 pub mod ValidityFacts
 pub mod TextExamples
 pub mod HeldNumbers

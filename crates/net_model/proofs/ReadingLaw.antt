@@ -1,5 +1,6 @@
 -- Whatever a text says is valid.
 use Rattle.std.proofs.Common.{◌≡◌, ℕ, suc, ◌+◌, ◌<◌, ◌≤◌, Bool, true, false, not, ◌&&◌, ◌||◌, ◌==◌, cond, nat_le, nat_lt, List, [], ◌∷◌, ◌++◌, map, length, codes, bytes_eq, refl, sym, ap, ap₂, subst, ◌∙◌, Result, Ok, Err, arith, length-append, zero-add, add-zero}
+use Rattle.std.specs.Prelude.{Option, Some, None, slice_get}
 use Rattle.std.specs.List.{list_any, list_all}
 use Rattle.std.proofs.Math.ListN.{get_or-append}
 use Rattle.std.proofs.lemmas.List.Folds.{list_any-append, list_all-append}
@@ -18,7 +19,9 @@ use Rattle.net_model.specs.declared.wires.Item.TheVariants.{Input, Const, Block 
 use Rattle.net_model.specs.declared.wires.Wire.{Wire}
 use Rattle.net_model.specs.declared.line_forms.Content.{Content}
 use Rattle.net_model.specs.Wires.{NetData, no_wire, wire_at, is_input}
-use Rattle.net_model.specs.Validity.{same_ty, is_built_ty, is_number_of, is_argument, is_good_item, is_good_wire, is_good_kind, are_good_from, are_distinct, are_distinct_numbers, is_valid, IsValid}
+use Rattle.mfx_arith.specs.Operations.{argument_types}
+use Rattle.net_model.specs.Built.{is_built, takes_types, is_shift, same_ty, is_built_ty}
+use Rattle.net_model.specs.Validity.{is_number_of, is_argument, is_given, is_good_item, is_good_wire, is_good_kind, are_good_from, are_distinct, are_distinct_numbers, is_valid, IsValid}
 use Rattle.net_model.specs.Forms.{◌>>=◌, demand, out_line, defining_line}
 use Rattle.net_model.specs.Text.{located, after_out, after_definition, after_line, ended, walked, is_head, no_head, from_head, network_of}
 use Rattle.net_model.proofs.GoodLines.{IsGood, IsGoodOut, is_wire-named, definition_good, output_line_good, true_if_both, first_of_both, second_of_both}
@@ -36,12 +39,19 @@ argument_same wires more i a ty false e h = rw e
 is_argument-append : (wires more : List Wire) (i : ℕ) (ty : Ty) (a : WireNo) → i ≤ length wires → is_argument (wires ++ more) i ty a ≡ is_argument wires i ty a
 is_argument-append wires more i ty a h = argument_same wires more i a.0 ty (nat_lt a.0 i) refl h
 
+-- nor does one that repeats the first change
+is_given-append : (wires more : List Wire) (i : ℕ) (first : WireNo) (ty : Option Ty) (a : WireNo) → i ≤ length wires → is_given (wires ++ more) i first ty a ≡ is_given wires i first ty a
+is_given-append wires more i first (Some ty) a h = is_argument-append wires more i ty a h
+is_given-append wires more i first None a h = refl
+
 -- an item stays good
 is_good_item-append : (wires more : List Wire) (i : ℕ) (kind : Kind) (item : Item) → i ≤ length wires → is_good_item (wires ++ more) i kind item ≡ is_good_item wires i kind item
 is_good_item-append wires more i kind (Input lo hi) h = refl
 is_good_item-append wires more i kind (Const value) h = refl
 is_good_item-append wires more i kind (OfBlock (Arith op v x y z sh)) h =
-    ap₂ (λ p q. is_built_ty v.x && same_ty v.x v.y && is_built_ty v.o && p && q && (z.0 == x.0) && (sh == 0) && is_number_of v.o kind) (is_argument-append wires more i v.x x h) (is_argument-append wires more i v.y y h)
+    let types = argument_types op v in
+    ap₂ (λ p q. is_built op && takes_types op v && p && q && is_given (wires ++ more) i x (slice_get types 2) z && is_shift op sh && is_number_of v.o kind) (is_given-append wires more i x (slice_get types 0) x h) (is_given-append wires more i x (slice_get types 1) y h)
+    ∙ ap (λ r. is_built op && takes_types op v && is_given wires i x (slice_get types 0) x && is_given wires i x (slice_get types 1) y && r && is_shift op sh && is_number_of v.o kind) (is_given-append wires more i x (slice_get types 2) z h)
 is_good_item-append wires more i kind (OfBlock (Scaled op v x y)) h =
     ap (λ p. is_built_ty v.x && same_ty v.x v.y && is_built_ty v.o && p && (y.0 == x.0) && is_number_of v.o kind) (is_argument-append wires more i v.x x h)
 

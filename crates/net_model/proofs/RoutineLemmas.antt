@@ -1,30 +1,21 @@
--- The formulas of the sum and of the conversion, on whole numbers.
-use Rattle.std.proofs.Common.{◌≡◌, ℕ, zero, suc, pred, ◌+◌, ◌-◌, ◌*◌, ◌<◌, ◌≤◌, ◌^◌, ℤ, pos, negsuc, ◌+ℤ◌, ◌-ℤ◌, ◌*ℤ◌, sym, ap, ap₂, ◌∙◌, arith, le-leb, inl, inr, pow_pos, FitsSigned, to_z, of_z}
+-- The formula of the conversion, on whole numbers.
+use Rattle.std.proofs.Common.{◌≡◌, ℕ, zero, suc, pred, ◌+◌, ◌-◌, ◌*◌, ◌<◌, ◌≤◌, ◌^◌, ℤ, pos, negsuc, ◌-ℤ◌, ◌*ℤ◌, sym, ap, ap₂, ◌∙◌, arith, le-leb, inl, inr, pow_pos, FitsSigned, to_z, of_z}
 use Rattle.std.specs.Int.{w32, w64, w128}
 use borrow.Author.Differences.{fits_in}
 use Rattle.fx_core.specs.declared.word_type.Ty.{Ty}
 use Rattle.fx_core.specs.Types.{saturated}
 use Rattle.std.proofs.lemmas.Bool.{lt-leb, cases_lt}
 use Rattle.std.proofs.lemmas.Int.{ints, to_z-of_z}
-use Rattle.fx_fraction.specs.Fraction.{whole, over, plus, times}
+use Rattle.fx_fraction.specs.Fraction.{whole, over, times}
 use Rattle.fx_core.specs.declared.quotient.Mode.{Mode}
 use Rattle.fx_core.specs.declared.quotient.Mode.TheVariants.{Zero}
 use Rattle.fx_core.specs.Rounding.{rounded, shifted_rounded}
 use Rattle.fx_core.specs.Values.{rounded_fraction}
 use Rattle.fx_core.proofs.RoundingLaws.{rounded_by_one}
 use Rattle.net_model.specs.declared.first.Points.{Points}
-use Rattle.net_model.specs.declared.first.ArithOp.TheVariants.{Add}
 use Rattle.net_model.specs.declared.first.ScaledOp.TheVariants.{Convert}
-use Rattle.net_model.specs.Formulas.{arith_formula, scaled_formula, point_factor}
-use Rattle.net_model.specs.Given.{one_given, two_given}
-
--- a sum of whole numbers is whole
-sum_over_one : (x y : ℤ) → x *ℤ pos 1 +ℤ y *ℤ pos 1 ≡ x +ℤ y
-sum_over_one x y = omega (arith, ints)
-
-pub rounded-add : (x y : ℤ) → rounded_fraction Zero (arith_formula Add (two_given x y)) ≡ x +ℤ y
-unfolding plus whole
-rounded-add x y = ap (λ n. rounded Zero n (pos 1)) (sum_over_one x y) ∙ rounded_by_one Zero (x +ℤ y)
+use Rattle.net_model.specs.Formulas.{scaled_formula, point_factor}
+use Rattle.net_model.specs.Given.{one_given}
 
 -- a factor from a point to one that isn't lower is whole
 rounded-times_whole : (m : Mode) (x : ℤ) (k : ℕ) → rounded_fraction m (times (whole x) (whole (pos k))) ≡ x *ℤ pos k
@@ -42,15 +33,6 @@ denom-times_over zero h = absurd (omega arith)
 rounded-times_over : (m : Mode) (x : ℤ) (d : ℕ) → 1 ≤ d → rounded_fraction m (times (whole x) (over (pos 1) d)) ≡ rounded m x (pos d)
 unfolding times whole over
 rounded-times_over m x d h = ap₂ (λ n t. rounded m n (pos t)) (times_one x) (denom-times_over d h)
-
--- the sum in the terms of its code: words of 64 bits are added in 128
-pub summed : (o : Ty) (x y p q r : ℤ) → FitsSigned w64 x → FitsSigned w64 y → FitsSigned w128 p → FitsSigned w128 q → FitsSigned w64 r → p ≡ to_z w64 (of_z w64 x) → q ≡ to_z w64 (of_z w64 y) → r ≡ saturated o (to_z w128 (of_z w128 (to_z w128 (of_z w128 p) +ℤ to_z w128 (of_z w128 q)))) → to_z w64 (of_z w64 r) ≡ saturated o (rounded_fraction Zero (arith_formula Add (two_given x y)))
-summed o x y p q r fx fy fp fq fr ep eq er =
-    let px : p ≡ x = ep ∙ to_z-of_z w64 x fx in
-    let qy : q ≡ y = eq ∙ to_z-of_z w64 y fy in
-    let parts : to_z w128 (of_z w128 p) +ℤ to_z w128 (of_z w128 q) ≡ x +ℤ y = ap₂ (λ s t. s +ℤ t) (to_z-of_z w128 p fp ∙ px) (to_z-of_z w128 q fq ∙ qy) in
-    let fits : FitsSigned w128 (x +ℤ y) = fits_in w128 _ (omega (arith, ints)) in
-    to_z-of_z w64 r fr ∙ er ∙ ap (λ t. saturated o (to_z w128 (of_z w128 t))) parts ∙ ap (saturated o) (to_z-of_z w128 (x +ℤ y) fits ∙ sym (rounded-add x y))
 
 -- the conversion of a whole number between two binary points
 exponent_up : (a c : ℕ) → a ≤ c → pos c -ℤ pos a ≡ pos (c - a)

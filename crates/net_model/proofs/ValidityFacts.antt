@@ -1,14 +1,15 @@
 -- What a valid network keeps, and where its parts stand.
 use Rattle.std.proofs.Common.{◌≡◌, ℕ, zero, suc, ◌+◌, ◌<◌, ◌≤◌, Bool, true, ◌&&◌, List, [], ◌∷◌, ◌++◌, map, length, get_or, ℤ, ◌≤ℤ◌, nat_lt, nat_le, int_le, refl, sym, ap, ◌∙◌, subst, arith, true≢false, ltb-true, leb-true, eqb-true, eq-eqb, ne_eqb, cond}
-use Rattle.std.specs.Prelude.{Some, None, if◌then◌else◌}
+use Rattle.std.specs.Prelude.{Option, Some, None, slice_get, if◌then◌else◌}
 use Rattle.std.specs.List.{list_any, list_all}
 use Rattle.std.proofs.lemmas.Bool.{and_parts}
 use Rattle.std.proofs.lemmas.Int.{ints}
 use Rattle.text_words.specs.Names.{is_name}
 use Rattle.fx_core.specs.declared.word_type.Ty.{Ty}
-use Rattle.fx_core.specs.declared.word_type.Ty.TheVariants.{U8, S8, U16, S16, U32, S32}
-use Rattle.net_model.specs.declared.first.Variant.{Variant}
-use Rattle.net_model.specs.declared.first.ArithOp.{ArithOp}
+use Rattle.mfx_arith.specs.declared.operation.ArithOp.{ArithOp}
+use Rattle.mfx_arith.specs.declared.operation.ArithOp.TheVariants.{Abs, MulDiv, Limit, Min, Max, RateLimiter}
+use Rattle.mfx_arith.specs.declared.operation.Variant.{Variant}
+use Rattle.mfx_arith.specs.Operations.{Takes, argument_types}
 use Rattle.net_model.specs.declared.first.ScaledOp.{ScaledOp}
 use Rattle.net_model.specs.declared.wires.WireNo.{WireNo}
 use Rattle.net_model.specs.declared.wires.Kind.{Kind}
@@ -22,7 +23,9 @@ use Rattle.net_model.specs.declared.wires.Role.{Role}
 use Rattle.net_model.specs.declared.wires.Role.TheVariants.{Value}
 use Rattle.net_model.specs.declared.wires.Part.{Part}
 use Rattle.net_model.specs.Wires.{NetData, wire_at, no_wire, kind_least, kind_greatest, point_of, argument_of, is_input, roles_of, parts_from, parts_of, no_part, place_in, has_role, part_number}
-use Rattle.net_model.specs.Validity.{same_ty, is_built_ty, is_good_kind, kind_holds, is_number_of, is_argument, is_good_block, is_good_item, is_good_wire, are_good_from, are_distinct, are_distinct_numbers, is_valid, IsValid}
+use Rattle.net_model.specs.Built.{is_built, is_built_ty, is_shift}
+use Rattle.net_model.specs.Validity.{is_good_kind, kind_holds, is_number_of, is_argument, is_given, is_good_block, is_good_item, is_good_wire, are_good_from, are_distinct, are_distinct_numbers, is_valid, IsValid}
+use Rattle.net_model.proofs.BuiltFacts.{same_ty-true, takes_from_test}
 
 -- the conditions, one by one
 pub record Conditions (net : NetData) : Type 0 where
@@ -115,16 +118,6 @@ input-valid net i lo hi h lt e =
 pub const-valid : (net : NetData) (i : ℕ) (value : ℤ) → IsValid net → i < length net.wires → (wire_at net.wires i).item ≡ Const value → IsInKind (wire_at net.wires i).kind value
 const-valid net i value h lt e = in_kind _ _ (good_item-valid net i (Const value) h lt e)
 
--- types that are the same
-pub same_ty-true : (s t : Ty) → same_ty s t ≡ true → s ≡ t
-same_ty-true U8 U8 h = refl
-same_ty-true S8 S8 h = refl
-same_ty-true U16 U16 h = refl
-same_ty-true S16 S16 h = refl
-same_ty-true U32 U32 h = refl
-same_ty-true S32 S32 h = refl
-same_ty-true _ _ h = absurd (true≢false (sym h))
-
 -- a wire of a type is a number wire
 pub number_kind : (ty : Ty) (kind : Kind) → is_number_of ty kind ≡ true → (point : ℕ) × (kind ≡ Num ty point)
 number_kind ty (Num t point) h = (point, ap (λ u. Num u point) (sym (same_ty-true ty t h)))
@@ -140,18 +133,48 @@ argument wires i ty a h =
     let p = and_parts _ _ h in
     record { earlier = ltb-true _ _ p.0; number = p.1 }
 
--- a block of Mfx arithmetic: its types are built, its arguments are good, what it lacks repeats the first one
-pub record IsGoodArith (wires : List Wire) (i : ℕ) (kind : Kind) (v : Variant) (x y z : WireNo) (sh : ℕ) : Type 0 where
-  pub built_x : is_built_ty v.x ≡ true
-  pub one_type : v.x ≡ v.y
-  pub built_o : is_built_ty v.o ≡ true
-  pub first : IsArgument wires i v.x x
-  pub second : IsArgument wires i v.y y
-  pub third : z.0 ≡ x.0
-  pub shift : sh ≡ 0
+-- an argument is of its type; one that the routine doesn't have repeats the first
+abbrev pub IsGiven : List Wire → ℕ → WireNo → Option Ty → WireNo → Type 0
+IsGiven wires i first (Some ty) a = IsArgument wires i ty a
+IsGiven wires i first None a = a.0 ≡ first.0
+
+given : (wires : List Wire) (i : ℕ) (first : WireNo) (ty : Option Ty) (a : WireNo) → is_given wires i first ty a ≡ true → IsGiven wires i first ty a
+given wires i first (Some ty) a h = argument wires i ty a h
+given wires i first None a h = eqb-true _ _ h
+
+-- each routine has a first argument, which is an earlier wire
+first_earlier : (wires : List Wire) (i : ℕ) (op : ArithOp) (v : Variant) (x : WireNo) → IsGiven wires i x (slice_get (argument_types op v) 0) x → x.0 < i
+first_earlier wires i MulDiv v x g = g.earlier
+first_earlier wires i Abs v x g = g.earlier
+first_earlier wires i Limit v x g = g.earlier
+first_earlier wires i Min v x g = g.earlier
+first_earlier wires i Max v x g = g.earlier
+first_earlier wires i RateLimiter v x g = g.earlier
+first_earlier wires i other v x g = g.earlier
+
+-- and so is what repeats it
+below_along : (a b i : ℕ) → a ≡ b → b < i → a < i
+below_along a b i e h = omega arith
+
+given_earlier : (wires : List Wire) (i : ℕ) (first : WireNo) (ty : Option Ty) (a : WireNo) → first.0 < i → IsGiven wires i first ty a → a.0 < i
+given_earlier wires i first (Some ty) a h g = g.earlier
+given_earlier wires i first None a h g = below_along _ _ _ g h
+
+-- a block of Mfx arithmetic: its operation is built and takes its types, its arguments are good and earlier wires, and
+-- its count of places is one of the operation
+pub record IsGoodArith (wires : List Wire) (i : ℕ) (kind : Kind) (op : ArithOp) (v : Variant) (x y z : WireNo) (sh : ℕ) : Type 0 where
+  pub built : is_built op ≡ true
+  pub taken : Takes op v
+  pub first : IsGiven wires i x (slice_get (argument_types op v) 0) x
+  pub second : IsGiven wires i x (slice_get (argument_types op v) 1) y
+  pub third : IsGiven wires i x (slice_get (argument_types op v) 2) z
+  pub earlier_x : x.0 < i
+  pub earlier_y : y.0 < i
+  pub earlier_z : z.0 < i
+  pub shift : is_shift op sh ≡ true
   pub output : is_number_of v.o kind ≡ true
 
-good_arith : (wires : List Wire) (i : ℕ) (kind : Kind) (op : ArithOp) (v : Variant) (x y z : WireNo) (sh : ℕ) → is_good_block wires i kind (Arith op v x y z sh) ≡ true → IsGoodArith wires i kind v x y z sh
+good_arith : (wires : List Wire) (i : ℕ) (kind : Kind) (op : ArithOp) (v : Variant) (x y z : WireNo) (sh : ℕ) → is_good_block wires i kind (Arith op v x y z sh) ≡ true → IsGoodArith wires i kind op v x y z sh
 good_arith wires i kind op v x y z sh h =
     let h1 = and_parts _ _ h in
     let h2 = and_parts _ _ h1.0 in
@@ -159,10 +182,24 @@ good_arith wires i kind op v x y z sh h =
     let h4 = and_parts _ _ h3.0 in
     let h5 = and_parts _ _ h4.0 in
     let h6 = and_parts _ _ h5.0 in
-    let h7 = and_parts _ _ h6.0 in
-    record { built_x = h7.0; one_type = same_ty-true _ _ h7.1; built_o = h6.1; first = argument _ _ _ _ h5.1; second = argument _ _ _ _ h4.1; third = eqb-true _ _ h3.1; shift = eqb-true _ _ h2.1; output = h1.1 }
+    let x_given = given wires i x (slice_get (argument_types op v) 0) x h5.1 in
+    let y_given = given wires i x (slice_get (argument_types op v) 1) y h4.1 in
+    let z_given = given wires i x (slice_get (argument_types op v) 2) z h3.1 in
+    let x_below = first_earlier wires i op v x x_given in
+    record {
+      built = h6.0;
+      taken = takes_from_test op v h6.1;
+      first = x_given;
+      second = y_given;
+      third = z_given;
+      earlier_x = x_below;
+      earlier_y = given_earlier _ _ _ _ y x_below y_given;
+      earlier_z = given_earlier _ _ _ _ z x_below z_given;
+      shift = h2.1;
+      output = h1.1;
+    }
 
-pub arith-valid : (net : NetData) (i : ℕ) (op : ArithOp) (v : Variant) (x y z : WireNo) (sh : ℕ) → IsValid net → i < length net.wires → (wire_at net.wires i).item ≡ OfBlock (Arith op v x y z sh) → IsGoodArith net.wires i (wire_at net.wires i).kind v x y z sh
+pub arith-valid : (net : NetData) (i : ℕ) (op : ArithOp) (v : Variant) (x y z : WireNo) (sh : ℕ) → IsValid net → i < length net.wires → (wire_at net.wires i).item ≡ OfBlock (Arith op v x y z sh) → IsGoodArith net.wires i (wire_at net.wires i).kind op v x y z sh
 arith-valid net i op v x y z sh h lt e = good_arith _ _ _ op _ _ _ _ _ (good_item-valid net i (OfBlock (Arith op v x y z sh)) h lt e)
 
 -- a block with binary points, likewise
@@ -191,14 +228,11 @@ pub scaled_argument-valid : (net : NetData) (i : ℕ) (op : ScaledOp) (v : Varia
 scaled_argument-valid net i op v x y h lt e = number_kind _ _ ((scaled-valid net i op v x y h lt e).first.number)
 
 -- each argument of a block is an earlier wire
-below_along : (a b i : ℕ) → a ≡ b → b < i → a < i
-below_along a b i e h = omega arith
-
 argument_of-good : (wires : List Wire) (i : ℕ) (kind : Kind) (b : Block) → is_good_block wires i kind b ≡ true → (p : ℕ) → argument_of b p < i
-argument_of-good wires i kind (Arith op v x y z sh) h zero = (good_arith wires i kind op v x y z sh h).first.earlier
-argument_of-good wires i kind (Arith op v x y z sh) h (suc zero) = (good_arith wires i kind op v x y z sh h).second.earlier
-argument_of-good wires i kind (Arith op v x y z sh) h (suc (suc zero)) = below_along _ _ _ (good_arith wires i kind op v x y z sh h).third (good_arith wires i kind op v x y z sh h).first.earlier
-argument_of-good wires i kind (Arith op v x y z sh) h (suc (suc (suc p))) = (good_arith wires i kind op v x y z sh h).first.earlier
+argument_of-good wires i kind (Arith op v x y z sh) h zero = (good_arith wires i kind op v x y z sh h).earlier_x
+argument_of-good wires i kind (Arith op v x y z sh) h (suc zero) = (good_arith wires i kind op v x y z sh h).earlier_y
+argument_of-good wires i kind (Arith op v x y z sh) h (suc (suc zero)) = (good_arith wires i kind op v x y z sh h).earlier_z
+argument_of-good wires i kind (Arith op v x y z sh) h (suc (suc (suc p))) = (good_arith wires i kind op v x y z sh h).earlier_x
 argument_of-good wires i kind (Scaled op v x y) h zero = (good_scaled wires i kind op v x y h).first.earlier
 argument_of-good wires i kind (Scaled op v x y) h (suc zero) = below_along _ _ _ (good_scaled wires i kind op v x y h).second (good_scaled wires i kind op v x y h).first.earlier
 argument_of-good wires i kind (Scaled op v x y) h (suc (suc p)) = (good_scaled wires i kind op v x y h).first.earlier

@@ -1,10 +1,11 @@
 -- The lines of a network's text, one definition for each form. The order of its lines is the order in which a
 -- line is tested; the first test that fails says what is wrong.
-use Rattle.std.specs.Prelude.{ℕ, ◌+◌, Bool, true, false, not, ◌&&◌, ◌||◌, ◌==◌, nat_le, nat_lt, int_le, List, [], get_or, length, ℤ, codes, bytes_eq, position, Option, Some, None, ok_or, is_some, Result, Ok, Err, if◌then◌else◌}
+use Rattle.std.specs.Prelude.{ℕ, ◌+◌, ◌<◌, Bool, true, false, not, ◌&&◌, ◌||◌, ◌==◌, nat_le, nat_lt, int_le, List, length, ℤ, pos, unsigned_abs, slice_get, codes, bytes_eq, position, Option, Some, None, ok_or, is_some, Result, Ok, Err, if◌then◌else◌}
 use Rattle.std.specs.List.{list_any}
 use Rattle.text_words.specs.Lines.{nth, words_of}
 use Rattle.text_words.specs.Names.{is_name}
 use Rattle.text_words.specs.Numbers.{number_of}
+use Rattle.fx_core.specs.declared.word_type.Ty.{Ty}
 use Rattle.net_model.specs.declared.network.NetKind.{NetKind}
 use Rattle.net_model.specs.declared.network.NetKind.TheVariants.{BadLine, BadName, Repeated, BadType, UnknownRoutine, BadCount, UnknownName, LaterWire, TypeDiffers, BadNumber, OutOfRange, TooMany}
 use Rattle.net_model.specs.declared.wires.WireNo.{WireNo}
@@ -13,11 +14,12 @@ use Rattle.net_model.specs.declared.wires.Item.{Item}
 use Rattle.net_model.specs.declared.wires.Item.TheVariants.{Input, Const, Block as OfBlock}
 use Rattle.net_model.specs.declared.wires.Wire.{Wire}
 use Rattle.net_model.specs.declared.routine_word.Routine.{Routine}
+use Rattle.net_model.specs.declared.routine_word.Arguments.{Arguments}
 use Rattle.net_model.specs.declared.line_forms.Content.{Content}
 use Rattle.net_model.specs.Wires.{wire_at}
 use Rattle.net_model.specs.Validity.{kind_holds, is_number_of}
 use Rattle.net_model.specs.TypeWords.{kind_of, axis_name, is_position}
-use Rattle.net_model.specs.RoutineWords.{routine_of, arity_of, variant_of, block_of}
+use Rattle.net_model.specs.RoutineWords.{routine_of, types_of, arity_of, is_shifting, variant_of, block_of}
 
 infixl 10 ◌>>=◌
 -- what comes next, unless there is a fault
@@ -108,9 +110,18 @@ output_of routine word = do
   _ ← demand (is_number_of (variant_of routine).o kind) TypeDiffers
   Ok kind
 
--- the wires of the first and the last argument are of the types that a routine takes, whatever their points
-abbrev pub takes : List Wire → Routine → ℕ → ℕ → Bool
-takes wires routine x y = is_number_of (variant_of routine).x (wire_at wires x).kind && is_number_of (variant_of routine).y (wire_at wires y).kind
+-- the type of argument number p of a routine, from 0; none where the routine doesn't have it
+abbrev pub type_at : Routine → ℕ → Option Ty
+type_at routine p = slice_get (types_of routine) p
+
+-- the wire of an argument is of its type, whatever its point
+abbrev pub is_typed : List Wire → Option Ty → WireNo → Bool
+is_typed wires (Some ty) a = is_number_of ty (wire_at wires a.0).kind
+is_typed wires None a = true
+
+-- the wires that a routine is given are of the types that it takes
+abbrev pub takes : List Wire → Routine → Arguments → Bool
+takes wires routine given = is_typed wires (type_at routine 0) given.x && is_typed wires (type_at routine 1) given.y && is_typed wires (type_at routine 2) given.z
 
 -- ---- the forms
 
@@ -134,9 +145,41 @@ const_line wires words = do
   _ ← has_room wires
   Ok (record { kind = kind; item = item })
 
--- the last argument of a routine, which stands behind `wire NAME TYPE = ROUTINE`
-abbrev pub last_argument : Routine → List (List ℕ) → List ℕ
-last_argument routine words = nth words (4 + arity_of routine)
+-- the word of an argument of this place and type, behind `wire NAME TYPE = ROUTINE`; one that the routine doesn't have repeats the first
+abbrev pub argument_word : List (List ℕ) → ℕ → Option Ty → List ℕ
+argument_word words p (Some ty) = nth words (5 + p)
+argument_word words p None = nth words 5
+
+-- the word of argument number p of a routine, from 0
+abbrev pub argument_at : Routine → List (List ℕ) → ℕ → List ℕ
+argument_at routine words p = argument_word words p (type_at routine p)
+
+-- the wires that a routine is given
+unfoldable pub arguments_of : List Wire → Routine → List (List ℕ) → Result Arguments NetKind
+arguments_of wires routine words = do
+  x ← reached wires (argument_at routine words 0)
+  y ← reached wires (argument_at routine words 1)
+  z ← reached wires (argument_at routine words 2)
+  Ok (record { x = record { 0 = x }; y = record { 0 = y }; z = record { 0 = z } })
+
+-- each of them is one of so many wires
+abbrev pub AreBelow : ℕ → Arguments → Type 0
+AreBelow count given = (given.x.0 < count) × (given.y.0 < count) × (given.z.0 < count)
+
+-- the count of places that a word writes
+unfoldable pub places_at : List ℕ → Result ℕ NetKind
+places_at word = do
+  sh ← number_at word
+  _ ← demand (int_le (pos 0) sh && int_le sh (pos 15)) OutOfRange
+  Ok (unsigned_abs sh)
+
+-- the count of places, which stands behind the wires of a routine that shifts; 0 where it doesn't
+unfoldable pub shift_of : Routine → List (List ℕ) → Result ℕ NetKind
+shift_of routine words = if is_shifting routine then places_at (nth words (5 + arity_of routine)) else Ok 0
+
+-- how many words a line of a routine has: a count of places is one more than the wires
+abbrev pub words_wanted : Routine → ℕ
+words_wanted routine = 5 + arity_of routine + (if is_shifting routine then 1 else 0)
 
 -- the axis that a type word names, if it names one, passes the test
 abbrev pub axis_passes : (List ℕ → Bool) → List ℕ → Bool
@@ -145,7 +188,8 @@ axis_passes test word = not (is_position word) || test (axis_name word)
 -- the names that a wire line uses are defined
 abbrev pub are_known : List (List ℕ) → List Wire → Routine → List (List ℕ) → Bool
 are_known lines wires routine words =
-    axis_passes (is_known lines wires) (nth words 2) && is_known lines wires (nth words 5) && is_known lines wires (last_argument routine words)
+    axis_passes (is_known lines wires) (nth words 2)
+    && is_known lines wires (argument_at routine words 0) && is_known lines wires (argument_at routine words 1) && is_known lines wires (argument_at routine words 2)
 
 -- `wire NAME TYPE = ROUTINE ARG ..`
 unfoldable pub wire_line : List (List ℕ) → List Wire → List (List ℕ) → Result Content NetKind
@@ -154,15 +198,15 @@ wire_line lines wires words = do
   _ ← fresh wires (nth words 1)
   _ ← demand (is_type (nth words 2)) BadType
   routine ← ok_or (routine_of (nth words 4)) UnknownRoutine
-  _ ← demand (length words == 5 + arity_of routine) BadCount
+  _ ← demand (length words == words_wanted routine) BadCount
   _ ← demand (are_known lines wires routine words) UnknownName
   _ ← demand (axis_passes (is_wire wires) (nth words 2)) LaterWire
-  x ← reached wires (nth words 5)
-  y ← reached wires (last_argument routine words)
+  given ← arguments_of wires routine words
   kind ← output_of routine (nth words 2)
-  _ ← demand (takes wires routine x y) TypeDiffers
+  _ ← demand (takes wires routine given) TypeDiffers
+  sh ← shift_of routine words
   _ ← has_room wires
-  Ok (record { kind = kind; item = OfBlock (block_of routine x y) })
+  Ok (record { kind = kind; item = OfBlock (block_of routine given sh) })
 
 -- an output is among those so far
 abbrev pub is_output : List WireNo → Option ℕ → Bool

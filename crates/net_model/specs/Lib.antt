@@ -1,5 +1,7 @@
 pub mod Wires
+pub mod Built
 pub mod Validity
+pub mod Smooth
 pub mod Formulas
 pub mod Given
 pub mod Faults

@@ -1,9 +1,9 @@
 -- When a network is valid.
-use Rattle.std.specs.Prelude.{ℕ, ◌+◌, Bool, true, false, not, ◌&&◌, List, [], ◌∷◌, map, length, ℤ, int_le, IsTrue, nat_le, nat_lt, ◌==◌, bytes_eq}
+use Rattle.std.specs.Prelude.{ℕ, ◌+◌, Bool, true, false, not, ◌&&◌, List, [], ◌∷◌, map, length, ℤ, int_le, IsTrue, nat_le, nat_lt, ◌==◌, bytes_eq, slice_get, Option, Some, None}
 use Rattle.std.specs.List.{list_any, list_all}
 use Rattle.text_words.specs.Names.{is_name}
 use Rattle.fx_core.specs.declared.word_type.Ty.{Ty}
-use Rattle.fx_core.specs.declared.word_type.Ty.TheVariants.{U8, S8, U16, S16, U32, S32}
+use Rattle.mfx_arith.specs.Operations.{argument_types}
 use Rattle.net_model.specs.declared.wires.WireNo.{WireNo}
 use Rattle.net_model.specs.declared.wires.Kind.{Kind}
 use Rattle.net_model.specs.declared.wires.Kind.TheVariants.{Num, Truth}
@@ -12,23 +12,8 @@ use Rattle.net_model.specs.declared.wires.Block.TheVariants.{Arith, Scaled}
 use Rattle.net_model.specs.declared.wires.Item.{Item}
 use Rattle.net_model.specs.declared.wires.Item.TheVariants.{Input, Const, Block as OfBlock}
 use Rattle.net_model.specs.declared.wires.Wire.{Wire}
+use Rattle.net_model.specs.Built.{is_built, same_ty, takes_types, is_shift, is_built_ty}
 use Rattle.net_model.specs.Wires.{NetData, wire_at, kind_least, kind_greatest, is_input}
-
--- two types are the same
-abbrev pub same_ty : Ty → Ty → Bool
-same_ty U8 U8 = true
-same_ty S8 S8 = true
-same_ty U16 U16 = true
-same_ty S16 S16 = true
-same_ty U32 U32 = true
-same_ty S32 S32 = true
-same_ty _ _ = false
-
--- the types of the built routines: sums and conversions of signed types of 16 and 32 bits
-abbrev pub is_built_ty : Ty → Bool
-is_built_ty S16 = true
-is_built_ty S32 = true
-is_built_ty _ = false
 
 -- a binary point is at most 15
 abbrev pub is_good_kind : Kind → Bool
@@ -48,10 +33,18 @@ is_number_of ty Truth = false
 abbrev pub is_argument : List Wire → ℕ → Ty → WireNo → Bool
 is_argument wires i ty a = nat_lt a.0 i && is_number_of ty (wire_at wires a.0).kind
 
+-- an argument is an earlier wire of its type; one that the routine doesn't have repeats the first
+abbrev pub is_given : List Wire → ℕ → WireNo → Option Ty → WireNo → Bool
+is_given wires i first (Some ty) a = is_argument wires i ty a
+is_given wires i first None a = a.0 == first.0
+
 -- a block of wire i is built, its arguments are earlier wires of its types, what it lacks repeats the
 -- first argument or is 0, and the wire is of its output's type
 abbrev pub is_good_block : List Wire → ℕ → Kind → Block → Bool
-is_good_block wires i kind (Arith op v x y z sh) = is_built_ty v.x && same_ty v.x v.y && is_built_ty v.o && is_argument wires i v.x x && is_argument wires i v.y y && z.0 == x.0 && sh == 0 && is_number_of v.o kind
+is_good_block wires i kind (Arith op v x y z sh) =
+    is_built op && takes_types op v
+    && is_given wires i x (slice_get (argument_types op v) 0) x && is_given wires i x (slice_get (argument_types op v) 1) y && is_given wires i x (slice_get (argument_types op v) 2) z
+    && is_shift op sh && is_number_of v.o kind
 is_good_block wires i kind (Scaled op v x y) = is_built_ty v.x && same_ty v.x v.y && is_built_ty v.o && is_argument wires i v.x x && y.0 == x.0 && is_number_of v.o kind
 
 -- a declared range isn't empty and lies in the kind, as does a constant

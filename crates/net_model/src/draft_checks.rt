@@ -2,14 +2,16 @@
 ghost use Rattle.std.specs.Prelude.{◌≡◌, ◌<◌, ◌≤◌, ◌^◌, ◌==◌, ◌&&◌, not, int_le, is_ok, length, bytes_eq, map, nat_lt};
 ghost use Rattle.std.specs.List.{list_any, list_all};
 ghost use Rattle.net_model.specs.Wires.{is_input};
-ghost use Rattle.net_model.specs.Validity.{are_distinct, are_distinct_numbers, are_good_from, is_argument, is_built_ty, is_good_block, is_good_item, is_good_kind, is_number_of, is_valid, kind_holds, same_ty};
+ghost use Rattle.net_model.specs.Validity.{are_distinct, are_distinct_numbers, are_good_from, is_argument, is_given, is_good_block, is_good_item, is_good_kind, is_number_of, is_valid, kind_holds};
+ghost use Rattle.net_model.specs.Built.{is_built, is_built_ty, is_shift, same_ty, takes_types};
 ghost use Rattle.net_model.specs.Faults.{is_sound_output, is_sound_wire, same_number};
 ghost use Rattle.net_model.specs.Drafts.{data_of};
 
-use crate::first::Variant;
+use crate::built::{argument_types, is_built, is_shift, same_ty, takes_types};
 use crate::network::{Draft, NetKind};
 use crate::wires::{Block, Item, Kind, Wire, WireNo};
 use fx_core::Ty;
+use mfx_arith::{ArithOp, Variant};
 
 // How many wires a network may have.
 pub const MOST_WIRES: usize = 512;
@@ -122,15 +124,17 @@ fn check_block(wires: &[Wire], i: usize, kind: Kind, block: Block) -> Result<(),
     ensures { is_ok result ≡ is_good_block wires.now i kind block }
 {
     match block {
-        Block::Arith { v, x, y, z, sh, .. } => {
-            check_variant(v)?;
-            check_argument(wires, i, v.x, x)?;
-            check_argument(wires, i, v.y, y)?;
-            check_unused(z.0 == x.0 && sh == 0)?;
+        Block::Arith { op, v, x, y, z, sh } => {
+            check_arith(op, v)?;
+            let types = argument_types(op, v);
+            check_given(wires, i, x, types.x, x)?;
+            check_given(wires, i, x, types.y, y)?;
+            check_given(wires, i, x, types.z, z)?;
+            check_shift(op, sh)?;
             check_type(v.o, kind)
         }
         Block::Scaled { v, x, y, .. } => {
-            check_variant(v)?;
+            check_scaled(v)?;
             check_argument(wires, i, v.x, x)?;
             check_unused(y.0 == x.0)?;
             check_type(v.o, kind)
@@ -138,8 +142,19 @@ fn check_block(wires: &[Wire], i: usize, kind: Kind, block: Block) -> Result<(),
     }
 }
 
-// Whether a routine of these types is built.
-fn check_variant(v: Variant) -> Result<(), NetKind>
+// Whether the operation is built and has a routine at these types.
+fn check_arith(op: ArithOp, v: Variant) -> Result<(), NetKind>
+    ensures { is_ok result ≡ (is_built op && takes_types op v) }
+{
+    if is_built(op) && takes_types(op, v) {
+        Ok(())
+    } else {
+        Err(NetKind::UnknownRoutine)
+    }
+}
+
+// Whether a form with binary points is built at these types.
+fn check_scaled(v: Variant) -> Result<(), NetKind>
     ensures { is_ok result ≡ (is_built_ty v.x && same_ty v.x v.y && is_built_ty v.o) }
 {
     if is_built_ty(v.x) && same_ty(v.x, v.y) && is_built_ty(v.o) {
@@ -155,10 +170,21 @@ fn is_built_ty(ty: Ty) -> bool
     matches!(ty, Ty::S16 | Ty::S32)
 }
 
-pub fn same_ty(one: Ty, other: Ty) -> bool
-    ensures { result ≡ same_ty one other }
+// An argument of the type that the routine takes there; one that it doesn't have repeats the first.
+fn check_given(
+    wires: &[Wire],
+    i: usize,
+    first: WireNo,
+    ty: Option<Ty>,
+    argument: WireNo,
+) -> Result<(), NetKind>
+    requires { i < length wires.now }
+    ensures { is_ok result ≡ is_given wires.now i first ty argument }
 {
-    one == other
+    match ty {
+        Some(ty) => check_argument(wires, i, ty, argument),
+        None => check_unused(argument.0 == first.0),
+    }
 }
 
 fn check_argument(wires: &[Wire], i: usize, ty: Ty, argument: WireNo) -> Result<(), NetKind>
@@ -189,6 +215,19 @@ fn check_unused(is_left: bool) -> Result<(), NetKind>
         Ok(())
     } else {
         Err(NetKind::BadCount)
+    }
+}
+
+// A count of places that the operation shifts by; one that doesn't shift has 0.
+fn check_shift(op: ArithOp, sh: u8) -> Result<(), NetKind>
+    ensures { is_ok result ≡ is_shift op sh }
+{
+    if is_shift(op, sh) {
+        return Ok(());
+    }
+    match op {
+        ArithOp::MulShRight | ArithOp::DivShLeft => Err(NetKind::OutOfRange),
+        _ => Err(NetKind::BadCount),
     }
 }
 

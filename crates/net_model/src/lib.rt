@@ -2,6 +2,7 @@
 // reader of a network's text stands here too, until the text has a crate of its own.
 #![tactic(auto)]
 
+mod built;
 mod definitions;
 mod draft_checks;
 pub mod first;
@@ -11,6 +12,7 @@ mod network;
 mod numbering;
 mod reader;
 mod routine_word;
+mod smoothness;
 #[cfg(test)]
 mod tests;
 mod type_word;

@@ -1,21 +1,27 @@
 // The forms of lines: what each gives, or the first of its tests that fails.
-ghost use Rattle.std.specs.Prelude.{◌≡◌, ◌<◌, ◌≤◌, length, IfOk, IfSome, OnOk, bytes_eq, codes, int_le, nat_le, true, ◌&&◌, ◌==◌};
+ghost use Rattle.std.specs.Prelude.{◌≡◌, ◌<◌, ◌≤◌, length, IfOk, IfSome, OnOk, bytes_eq, codes, int_le, nat_le, pos, true, ◌&&◌, ◌==◌};
 ghost use Rattle.std.specs.List.{list_any};
 ghost use Rattle.text_words.specs.Lines.{lines_of, words_of};
 ghost use Rattle.text_words.specs.Names.{is_name};
 ghost use Rattle.net_model.specs.Wires.{wire_at};
 ghost use Rattle.net_model.specs.Validity.{is_number_of, kind_holds};
-ghost use Rattle.net_model.specs.Forms.{are_known, axis_passes, const_line, defining_line, demand, fresh, has_room, in_line, is_known, is_output, is_type, is_wire, kind_at, out_line, output_of, place_of, range_of, reached, takes, value_of, wire_line};
+ghost use Rattle.net_model.specs.Forms.{AreBelow, are_known, argument_word, arguments_of, axis_passes, const_line, defining_line, demand, fresh, has_room, in_line, is_known, is_output, is_type, is_typed, is_wire, kind_at, out_line, output_of, place_of, places_at, range_of, reached, shift_of, takes, value_of, wire_line, words_wanted};
 ghost use Rattle.text_words.specs.Lines.{nth};
 
+use crate::built::{GREATEST_SHIFT, same_ty};
 use crate::definitions::is_defined;
-use crate::draft_checks::{MOST_WIRES, kind_holds, same_ty};
+use crate::draft_checks::{MOST_WIRES, kind_holds};
 use crate::network::NetKind;
-use crate::routine_word::{Routine, arity_of, block_of, routine_of, variant_of};
+use crate::routine_word::{
+    Arguments, Routine, arity_of, block_of, is_shifting, routine_of, types_of, variant_of,
+};
 use crate::type_word::{axis_name, is_position, kind_of};
 use crate::wires::{Item, Kind, Wire, WireNo};
 use fx_core::Ty;
 use text_words::{count_words, is_name, number, word_at};
+
+// The place of a routine's first argument, behind `wire NAME TYPE = ROUTINE`.
+const FIRST_ARGUMENT: usize = 5;
 
 /// What a line gives its wire besides the name.
 #[derive(Clone, Copy, Debug, PartialEq, Eq)]
@@ -89,17 +95,17 @@ fn wire_line(text: &[u8], wires: &[Wire], line: &[u8]) -> Result<Content, NetKin
     demand(is_type(word_at(line, 2)), NetKind::BadType)?;
     let routine = routine_of(word_at(line, 4)).ok_or(NetKind::UnknownRoutine)?;
     demand(
-        count_words(line) == 5 + arity_of(routine),
+        count_words(line) == words_wanted(routine),
         NetKind::BadCount,
     )?;
     demand(are_known(text, wires, routine, line), NetKind::UnknownName)?;
     demand(axis_is_reached(wires, word_at(line, 2)), NetKind::LaterWire)?;
-    let x = reached(wires, word_at(line, 5))?;
-    let y = reached(wires, word_at(line, 4 + arity_of(routine)))?;
+    let given = arguments_of(wires, routine, line)?;
     let kind = output_of(routine, word_at(line, 2))?;
-    demand(takes(wires, routine, x, y), NetKind::TypeDiffers)?;
+    demand(takes(wires, routine, given), NetKind::TypeDiffers)?;
+    let sh = shift_of(routine, line)?;
     has_room(wires)?;
-    let item = Item::Block(block_of(routine, x, y));
+    let item = Item::Block(block_of(routine, given, sh));
     Ok(Content { kind, item })
 }
 
@@ -127,6 +133,12 @@ fn demand(holds: bool, kind: NetKind) -> Result<(), NetKind>
     ensures { result ≡ demand holds kind }
 {
     if holds { Ok(()) } else { Err(kind) }
+}
+
+fn words_wanted(routine: Routine) -> usize
+    ensures { result ≡ words_wanted routine }
+{
+    FIRST_ARGUMENT + arity_of(routine) + usize::from(is_shifting(routine))
 }
 
 // At least six words, of which the fourth is `=`.
@@ -179,12 +191,25 @@ fn is_known(text: &[u8], wires: &[Wire], name: &[u8]) -> bool
     is_wire(wires, name) || is_defined(text, name)
 }
 
+// The word of an argument of this place and type; one that the routine doesn't have repeats the first.
+fn argument_word(line: &[u8], place: usize, ty: Option<Ty>) -> &[u8]
+    requires { place ≤ 2 }
+    ensures { result.now ≡ argument_word (words_of line.now) place ty }
+{
+    match ty {
+        Some(_) => word_at(line, FIRST_ARGUMENT + place),
+        None => word_at(line, FIRST_ARGUMENT),
+    }
+}
+
 fn are_known(text: &[u8], wires: &[Wire], routine: Routine, line: &[u8]) -> bool
     ensures { result ≡ are_known (lines_of text.now) wires.now routine (words_of line.now) }
 {
+    let types = types_of(routine);
     axis_is_known(text, wires, word_at(line, 2))
-        && is_known(text, wires, word_at(line, 5))
-        && is_known(text, wires, word_at(line, 4 + arity_of(routine)))
+        && is_known(text, wires, argument_word(line, 0, types.x))
+        && is_known(text, wires, argument_word(line, 1, types.y))
+        && is_known(text, wires, argument_word(line, 2, types.z))
 }
 
 fn axis_is_known(text: &[u8], wires: &[Wire], word: &[u8]) -> bool
@@ -204,6 +229,24 @@ fn reached(wires: &[Wire], name: &[u8]) -> Result<usize, NetKind>
     ensures within { IfOk result (λ place. place < length wires.now) }
 {
     place_of(wires, name).ok_or(NetKind::LaterWire)
+}
+
+// The wires that a routine is given.
+#[tactic(auto, unfolding(crate::specs::Forms::arguments_of))]
+fn arguments_of(wires: &[Wire], routine: Routine, line: &[u8]) -> Result<Arguments, NetKind>
+    requires { length wires.now ≤ 512 }
+    ensures value { result ≡ arguments_of wires.now routine (words_of line.now) }
+    ensures within { IfOk result (λ given. AreBelow (length wires.now) given) }
+{
+    let types = types_of(routine);
+    let x = reached(wires, argument_word(line, 0, types.x))?;
+    let y = reached(wires, argument_word(line, 1, types.y))?;
+    let z = reached(wires, argument_word(line, 2, types.z))?;
+    Ok(Arguments {
+        x: WireNo(x as u32),
+        y: WireNo(y as u32),
+        z: WireNo(z as u32),
+    })
 }
 
 fn is_output(outs: &[WireNo], place: Option<usize>) -> bool
@@ -248,6 +291,33 @@ fn value_of(kind: Kind, word: &[u8]) -> Result<Item, NetKind>
     Ok(Item::Const { value })
 }
 
+// The count of places, which stands behind the wires of a routine that shifts; 0 where it doesn't.
+#[tactic(auto, unfolding(crate::specs::Forms::shift_of))]
+fn shift_of(routine: Routine, line: &[u8]) -> Result<u8, NetKind>
+    ensures { result ≡ shift_of routine (words_of line.now) }
+{
+    if is_shifting(routine) {
+        places_at(word_at(line, FIRST_ARGUMENT + arity_of(routine)))
+    } else {
+        Ok(0)
+    }
+}
+
+#[tactic(auto, using(crate::proofs::HeldNumbers::places_at_held))]
+fn places_at(word: &[u8]) -> Result<u8, NetKind>
+    ensures { result ≡ places_at word.now }
+{
+    let sh = number(word).ok_or(NetKind::BadNumber)?;
+    demand(is_places(sh), NetKind::OutOfRange)?;
+    Ok(sh as u8)
+}
+
+fn is_places(sh: i64) -> bool
+    ensures { result ≡ (int_le (pos 0) sh && int_le sh (pos 15)) }
+{
+    0 <= sh && sh <= i64::from(GREATEST_SHIFT)
+}
+
 // ---- types
 
 fn kind_at(word: &[u8]) -> Result<Kind, NetKind>
@@ -283,11 +353,22 @@ fn is_number_of(ty: Ty, kind: Kind) -> bool
     }
 }
 
-fn takes(wires: &[Wire], routine: Routine, x: usize, y: usize) -> bool
-    requires x_is_wire { x < length wires.now }
-    requires y_is_wire { y < length wires.now }
-    ensures { result ≡ takes wires.now routine x y }
+fn takes(wires: &[Wire], routine: Routine, given: Arguments) -> bool
+    requires { AreBelow (length wires.now) given }
+    ensures { result ≡ takes wires.now routine given }
 {
-    let v = variant_of(routine);
-    is_number_of(v.x, wires[x].kind) && is_number_of(v.y, wires[y].kind)
+    let types = types_of(routine);
+    is_typed(wires, types.x, given.x)
+        && is_typed(wires, types.y, given.y)
+        && is_typed(wires, types.z, given.z)
+}
+
+fn is_typed(wires: &[Wire], ty: Option<Ty>, argument: WireNo) -> bool
+    requires { argument.0 < length wires.now }
+    ensures { result ≡ is_typed wires.now ty argument }
+{
+    match ty {
+        Some(ty) => is_number_of(ty, wires[argument.0 as usize].kind),
+        None => true,
+    }
 }

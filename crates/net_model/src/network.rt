@@ -1,10 +1,12 @@
-ghost use Rattle.std.specs.Prelude.{◌≡◌, ◌<◌, IfErr, IfOk, length, option_map};
+ghost use Rattle.std.specs.Prelude.{◌≡◌, ◌<◌, IfErr, IfOk, OnOk, length, option_map};
 ghost use Rattle.net_model.specs.Wires.{inputs_of, part_number, parts_of};
 ghost use Rattle.net_model.specs.Validity.{IsValid};
+ghost use Rattle.net_model.specs.Smooth.{IsFirstRough, IsSmooth};
 ghost use Rattle.net_model.specs.declared.network.NetRefusal.TheVariants.{At, OutOfMemory};
 
 use crate::draft_checks::{Fault, check_draft};
 use crate::numbering::{input_numbers, part_list, place_of};
+use crate::smoothness::first_rough;
 use crate::wires::{Part, PartNo, Role, Wire, WireNo};
 use std::alloc::{AllocError, Global};
 use std::marker::Model;
@@ -161,5 +163,17 @@ impl Network {
         ensures { result ≡ option_map (λ n. record { 0 = n }) (part_number self.now.wires w.0 role) }
     {
         place_of(self.parts(), w, role)
+    }
+
+    /// Whether certificates are for the network: else the first wire whose block isn't smooth.
+    #[tactic(auto, using(crate::proofs::DraftLemmas::few_valid))]
+    pub fn smooth(&self) -> Result<(), WireNo>
+        ensures smooth { OnOk result (IsSmooth self.now.wires) }
+        ensures first { IfErr result (λ wire. IsFirstRough self.now.wires wire.0) }
+    {
+        match first_rough(self.wires()) {
+            Some(wire) => Err(wire),
+            None => Ok(()),
+        }
     }
 }

@@ -1,6 +1,7 @@
-use crate::first::{ArithOp, ScaledOp, Variant};
+use crate::first::ScaledOp;
 use crate::naming::Name;
 use fx_core::Ty;
+use mfx_arith::{ArithOp, Variant};
 
 /// The number of a wire, from 0, in the order of the network's text.
 #[derive(Clone, Copy, Debug, PartialEq, Eq)]
@@ -21,7 +22,7 @@ pub enum Kind {
 /// first one.
 #[derive(Clone, Copy, Debug, PartialEq, Eq)]
 pub enum Block {
-    /// Mfx arithmetic on raw counts; `sh` is 0 where the routine has no shift.
+    /// Mfx arithmetic on raw counts; `sh` is at most 15, and 0 where the routine has no shift.
     Arith {
         op: ArithOp,
         v: Variant,

@@ -1,0 +1,92 @@
+// Which operations of Mfx arithmetic are built, and what their routines take.
+
+ghost use Rattle.std.specs.Prelude.{◌≡◌, slice_get};
+ghost use Rattle.mfx_arith.specs.Operations.{argument_types, unsigned_of};
+ghost use Rattle.net_model.specs.Built.{has_shift, is_built, is_shift, same_ty, takes_types};
+
+use fx_core::Ty;
+use mfx_arith::{ArithOp, Variant, takes};
+
+/// The greatest count of places that a routine shifts by.
+pub const GREATEST_SHIFT: u8 = 15;
+
+/// The types of a routine's arguments; None where the routine doesn't have the argument.
+#[derive(Clone, Copy)]
+pub struct ArgumentTypes {
+    pub x: Option<Ty>,
+    pub y: Option<Ty>,
+    pub z: Option<Ty>,
+}
+
+/// Whether the operation is built as a block.
+pub fn is_built(op: ArithOp) -> bool
+    ensures { result ≡ is_built op }
+{
+    !matches!(op, ArithOp::Mod)
+}
+
+/// Whether there is a routine of the operation at these types.
+pub fn takes_types(op: ArithOp, v: Variant) -> bool
+    ensures { result ≡ takes_types op v }
+{
+    takes(op, v)
+}
+
+/// The types of the arguments of an operation's routine.
+pub fn argument_types(op: ArithOp, v: Variant) -> ArgumentTypes
+    ensures x { result.x ≡ slice_get (argument_types op v) 0 }
+    ensures y { result.y ≡ slice_get (argument_types op v) 1 }
+    ensures z { result.z ≡ slice_get (argument_types op v) 2 }
+{
+    let (x, y, z) = match op {
+        ArithOp::Abs => (v.x, None, None),
+        ArithOp::MulDiv => (v.x, Some(v.y), Some(v.y)),
+        ArithOp::Limit => (v.o, Some(v.o), Some(v.o)),
+        ArithOp::Min | ArithOp::Max => (v.o, Some(v.o), None),
+        ArithOp::RateLimiter => (v.o, Some(v.o), Some(unsigned_of(v.o))),
+        ArithOp::Add
+        | ArithOp::Sub
+        | ArithOp::AbsDiff
+        | ArithOp::Mul
+        | ArithOp::Div
+        | ArithOp::Mod
+        | ArithOp::MulShRight
+        | ArithOp::DivShLeft => (v.x, Some(v.y), None),
+    };
+    ArgumentTypes { x: Some(x), y, z }
+}
+
+// The unsigned type of a type's width.
+fn unsigned_of(ty: Ty) -> Ty
+    ensures { result ≡ unsigned_of ty }
+{
+    match ty {
+        Ty::U8 | Ty::S8 => Ty::U8,
+        Ty::U16 | Ty::S16 => Ty::U16,
+        Ty::U32 | Ty::S32 => Ty::U32,
+    }
+}
+
+/// Whether the operation shifts by a count of places.
+pub fn has_shift(op: ArithOp) -> bool
+    ensures { result ≡ has_shift op }
+{
+    matches!(op, ArithOp::MulShRight | ArithOp::DivShLeft)
+}
+
+/// Whether a block of the operation can have the count of places.
+pub fn is_shift(op: ArithOp, sh: u8) -> bool
+    ensures { result ≡ is_shift op sh }
+{
+    match op {
+        ArithOp::MulShRight | ArithOp::DivShLeft => sh <= GREATEST_SHIFT,
+        _ => sh == 0,
+    }
+}
+
+/// Whether two types are the same.
+pub fn same_ty(one: Ty, other: Ty) -> bool
+    ensures { result ≡ same_ty one other }
+{
+    one == other
+}
