@@ -1,3 +1,4 @@
 pub mod StepFacts
+pub mod ArithSteps
 pub mod RowFacts
 pub mod TestRows

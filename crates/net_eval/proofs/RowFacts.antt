@@ -1,5 +1,6 @@
 -- The values of the steps are those of the machine's row.
 use Rattle.std.proofs.Common.{◌≡◌, ℕ, zero, suc, ◌+◌, ◌<◌, ◌≤◌, true, List, [], ◌∷◌, ◌++◌, map, length, get_or, take, ℤ, pos, ◌≤ℤ◌, int_le, refl, sym, ap, ap₂, ◌∙◌, subst, arith, cond, inl, inr}
+use Rattle.std.specs.Prelude.{Option, Some, None, IfSome, slice_get}
 use Rattle.std.proofs.lemmas.Bool.{cases_eq, and_parts}
 use Rattle.std.proofs.lemmas.Int.{ints}
 use Rattle.std.proofs.lemmas.List.{get_or_append_left, get_or_push, length_push, map-append}
@@ -10,7 +11,8 @@ use Rattle.fx_core.specs.declared.quotient.Mode.TheVariants.{Zero}
 use Rattle.fx_core.specs.Types.{Holds, saturated, saturated_to}
 use Rattle.fx_core.specs.Values.{rounded_fraction}
 use Rattle.fx_core.proofs.TypeLaws.{saturated_held}
-use Rattle.net_model.specs.declared.first.ArithOp.TheVariants.{Add}
+use Rattle.mfx_arith.specs.Operations.{argument_types}
+use Rattle.mfx_arith.specs.Calls.{value_in, arith_value}
 use Rattle.net_model.specs.declared.first.ScaledOp.TheVariants.{Convert}
 use Rattle.net_model.specs.declared.wires.WireNo.{WireNo}
 use Rattle.net_model.specs.declared.wires.Kind.{Kind}
@@ -19,11 +21,12 @@ use Rattle.net_model.specs.declared.wires.Block.TheVariants.{Arith, Scaled}
 use Rattle.net_model.specs.declared.wires.Item.{Item}
 use Rattle.net_model.specs.declared.wires.Item.TheVariants.{Input, Const, Block as OfBlock}
 use Rattle.net_model.specs.declared.wires.Wire.{Wire}
-use Rattle.net_model.specs.Wires.{NetData, wire_at, kind_least, kind_greatest, is_input, input_place, with_input, inputs_from, inputs_of}
+use Rattle.net_model.specs.Wires.{NetData, wire_at, kind_least, kind_greatest, argument_of, is_input, input_place, with_input, inputs_from, inputs_of}
 use Rattle.net_model.specs.Validity.{IsValid, kind_holds}
-use Rattle.net_model.proofs.ValidityFacts.{IsInKind, const-valid, arith-valid, scaled-valid, number_kind, point_of-valid}
-use Rattle.net_model.specs.Formulas.{arith_formula, scaled_formula}
-use Rattle.net_model.specs.Given.{one_given, two_given}
+use Rattle.net_model.proofs.ValidityFacts.{IsInKind, IsGiven, const-valid, arith-valid, scaled-valid, number_kind, point_of-valid}
+use Rattle.net_model.proofs.BuiltFacts.{shift_from_test}
+use Rattle.net_model.specs.Formulas.{scaled_formula}
+use Rattle.net_model.specs.Given.{one_given}
 use Rattle.net_meaning.specs.Cells.{Cell, plain, cell_at}
 use Rattle.net_meaning.specs.Blocks.{machine, machine_value_of, formula, state_formula, quotient_of, points_of}
 use Rattle.net_meaning.specs.Runs.{equation, equation_of, row_of, table}
@@ -34,6 +37,7 @@ use Rattle.net_eval.specs.Steps.{item_step, steps_of, step_at, step_value, value
 use Rattle.net_eval.specs.Picking.{AreBelow}
 use Rattle.net_eval.specs.Typing.{AreTyped}
 use Rattle.net_eval.proofs.StepFacts.{outs_below}
+use Rattle.net_eval.proofs.ArithSteps.{arguments_held, arith_value-is, arith_value-same}
 
 -- what holds of each element and of one more
 push_each : {X : Type 0} (xs : List X) (x d : X) (P : ℕ → X → Type 0) (n : ℕ) → length xs ≡ n → ((k : ℕ) → k < n → P k (get_or xs k d)) → P n x → (k : ℕ) → k < suc n → P k (get_or (xs ++ x ∷ []) k d)
@@ -109,10 +113,11 @@ kind_held ty kind point v e h =
     (k.low, k.high)
 
 value_held : (net : NetData) (inputs values : List ℤ) (i : ℕ) (item : Item) → IsValid net → AreTyped net.wires inputs → i < length net.wires → (wire_at net.wires i).item ≡ item → IsInKind (wire_at net.wires i).kind (step_value (item_step net.wires i item) inputs values)
+unfolding arith_value value_in
 value_held net inputs values i (Input lo hi) valid typed lt e = in_kind _ _ (typed i lt (ap is_input e))
 value_held net inputs values i (Const value) valid typed lt e = const-valid net i value valid lt e
-value_held net inputs values i (OfBlock (Arith Add v x y z sh)) valid typed lt e =
-    let k = number_kind v.o (wire_at net.wires i).kind (arith-valid net i Add v x y z sh valid lt e).output in
+value_held net inputs values i (OfBlock (Arith op v x y z sh)) valid typed lt e =
+    let k = number_kind v.o (wire_at net.wires i).kind (arith-valid net i op v x y z sh valid lt e).output in
     held_in_kind v.o _ k.0 _ k.1 (saturated_held v.o _)
 value_held net inputs values i (OfBlock (Scaled Convert v x y)) valid typed lt e =
     let k = number_kind v.o (wire_at net.wires i).kind (scaled-valid net i Convert v x y valid lt e).output in
@@ -136,15 +141,20 @@ values_held net inputs (suc n) valid typed le k lt =
 
 -- ---- each step is ready
 
+-- so is an argument of its type
+given_held : (wires : List Wire) (values : List ℤ) (i : ℕ) (first : WireNo) (ty : Option Ty) (a : WireNo) → AreHeld wires values i → IsGiven wires i first ty a → IfSome ty (λ t. Holds t (value_at values a.0))
+given_held wires values i first (Some ty) a held g =
+    let k = number_kind ty (wire_at wires a.0).kind g.number in kind_held ty _ k.0 _ k.1 (held a.0 g.earlier)
+given_held wires values i first None a held g = tt
+
 item_ready : (net : NetData) (inputs values : List ℤ) (i : ℕ) (item : Item) → IsValid net → length inputs ≡ length (inputs_of net.wires) → i < length net.wires → length values ≡ i → AreHeld net.wires values i → (wire_at net.wires i).item ≡ item → IsReady (item_step net.wires i item) inputs values
 item_ready net inputs values i (Input lo hi) valid one_each lt len held e =
     omega (arith, one_each, place_below net.wires i lt (ap is_input e))
 item_ready net inputs values i (Const value) valid one_each lt len held e = tt
-item_ready net inputs values i (OfBlock (Arith Add v x y z sh)) valid one_each lt len held e =
-    let g = arith-valid net i Add v x y z sh valid lt e in
-    let k = number_kind v.x (wire_at net.wires x.0).kind g.first.number in
-    let l = number_kind v.y (wire_at net.wires y.0).kind g.second.number in
-    (omega (arith, len, g.first.earlier), omega (arith, len, g.second.earlier), kind_held v.x _ k.0 _ k.1 (held x.0 g.first.earlier), kind_held v.y _ l.0 _ l.1 (held y.0 g.second.earlier))
+item_ready net inputs values i (OfBlock (Arith op v x y z sh)) valid one_each lt len held e =
+    let g = arith-valid net i op v x y z sh valid lt e in
+    let types = argument_types op v in
+    (omega (arith, len, g.earlier_x), omega (arith, len, g.earlier_y), omega (arith, len, g.earlier_z), g.taken, arguments_held op v _ _ _ (given_held net.wires values i x (slice_get types 0) x held g.first) (given_held net.wires values i x (slice_get types 1) y held g.second) (given_held net.wires values i x (slice_get types 2) z held g.third), shift_from_test op sh g.shift)
 item_ready net inputs values i (OfBlock (Scaled Convert v x y)) valid one_each lt len held e =
     let g = scaled-valid net i Convert v x y valid lt e in
     let k = number_kind v.x (wire_at net.wires x.0).kind g.first.number in
@@ -174,10 +184,10 @@ step_cell : (net : NetData) (inputs : List ℤ) (rows : List (List ℤ)) (past :
 unfolding equation_of machine machine_value_of formula state_formula quotient_of
 step_cell net inputs rows past cells i (Input lo hi) valid lt e = refl
 step_cell net inputs rows past cells i (Const value) valid lt e = refl
-step_cell net inputs rows past cells i (OfBlock (Arith Add v x y z sh)) valid lt e =
-    let k = number_kind v.o (wire_at net.wires i).kind (arith-valid net i Add v x y z sh valid lt e).output in
-    ap₂ (λ s t. saturated v.o (rounded_fraction Zero (arith_formula Add (two_given s t)))) (value_at-values cells x.0) (value_at-values cells y.0)
-    ∙ saturated_kind v.o (wire_at net.wires i).kind k.0 _ k.1
+step_cell net inputs rows past cells i (OfBlock (Arith op v x y z sh)) valid lt e =
+    let k = number_kind v.o (wire_at net.wires i).kind (arith-valid net i op v x y z sh valid lt e).output in
+    arith_value-same op v.o _ _ _ _ _ _ sh (value_at-values cells x.0) (value_at-values cells y.0) (value_at-values cells z.0)
+    ∙ arith_value-is op v.o (wire_at net.wires i).kind k.0 (λ p. (cell_at machine (cells ∷ past) 0 (argument_of (Arith op v x y z sh) p)).value) sh k.1
 step_cell net inputs rows past cells i (OfBlock (Scaled Convert v x y)) valid lt e =
     let k = number_kind v.o (wire_at net.wires i).kind (scaled-valid net i Convert v x y valid lt e).output in
     ap (λ s. saturated v.o (rounded_fraction Zero (scaled_formula Convert (points_of net.wires (wire_at net.wires i).kind (Scaled Convert v x y)) (one_given s)))) (value_at-values cells x.0)

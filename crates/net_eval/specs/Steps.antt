@@ -3,7 +3,8 @@ use Rattle.std.specs.Prelude.{ℕ, zero, suc, ◌<◌, ◌≤◌, ℤ, pos, List
 use Rattle.fx_core.specs.declared.quotient.Mode.TheVariants.{Zero}
 use Rattle.fx_core.specs.Types.{Holds, saturated}
 use Rattle.fx_core.specs.Values.{rounded_fraction}
-use Rattle.net_model.specs.declared.first.ArithOp.TheVariants.{Add}
+use Rattle.mfx_arith.specs.Calls.{arith_value}
+use Rattle.mfx_arith.specs.Operations.{Takes, HasArguments}
 use Rattle.net_model.specs.declared.first.ScaledOp.TheVariants.{Convert}
 use Rattle.net_model.specs.declared.wires.Kind.{Kind}
 use Rattle.net_model.specs.declared.wires.Block.{Block}
@@ -12,15 +13,15 @@ use Rattle.net_model.specs.declared.wires.Item.{Item}
 use Rattle.net_model.specs.declared.wires.Item.TheVariants.{Input, Const, Block as OfBlock}
 use Rattle.net_model.specs.declared.wires.Wire.{Wire}
 use Rattle.net_model.specs.Wires.{wire_at, input_place}
-use Rattle.net_model.specs.Formulas.{arith_formula, scaled_formula}
-use Rattle.net_model.specs.Given.{one_given, two_given}
+use Rattle.net_model.specs.Formulas.{scaled_formula}
+use Rattle.net_model.specs.Given.{one_given}
 use Rattle.net_meaning.specs.Blocks.{points_of}
 use Rattle.net_eval.specs.declared.resolving.Step.{Step}
-use Rattle.net_eval.specs.declared.resolving.Step.TheVariants.{Read, Fixed, Sum, Rescaled}
+use Rattle.net_eval.specs.declared.resolving.Step.TheVariants.{Read, Fixed, Arith as ArithStep, Rescaled}
 
 -- the step of a block on a wire of a kind
 abbrev pub block_step : List Wire → Kind → Block → Step
-block_step wires kind (Arith Add v x y z sh) = Sum v x.0 y.0
+block_step wires kind (Arith op v x y z sh) = ArithStep op v x.0 y.0 z.0 sh
 block_step wires kind (Scaled Convert v x y) = Rescaled v x.0 (points_of wires kind (Scaled Convert v x y))
 
 -- the step of wire i, by its item
@@ -46,7 +47,7 @@ value_at values i = get_or values i (pos 0)
 abbrev pub step_value : Step → List ℤ → List ℤ → ℤ
 step_value (Read place) inputs values = value_at inputs place
 step_value (Fixed value) inputs values = value
-step_value (Sum v x y) inputs values = saturated v.o (rounded_fraction Zero (arith_formula Add (two_given (value_at values x) (value_at values y))))
+step_value (ArithStep op v x y z sh) inputs values = arith_value op v.o (value_at values x) (value_at values y) (value_at values z) sh
 step_value (Rescaled v x points) inputs values = saturated v.o (rounded_fraction Zero (scaled_formula Convert points (one_given (value_at values x))))
 
 -- the values of the first n steps
@@ -54,11 +55,11 @@ unfoldable pub values_of : List Step → List ℤ → ℕ → List ℤ
 values_of steps inputs zero = []
 values_of steps inputs (suc n) = values_of steps inputs n ++ step_value (step_at steps n) inputs (values_of steps inputs n) ∷ []
 
--- a step's arguments are there, in the types of its routine
+-- a step's arguments are there, in the types of its routine, and a routine takes its types and its count of places
 abbrev pub IsReady : Step → List ℤ → List ℤ → Type 0
 IsReady (Read place) inputs values = place < length inputs
 IsReady (Fixed value) inputs values = Unit {0}
-IsReady (Sum v x y) inputs values = (x < length values) × (y < length values) × Holds v.x (value_at values x) × Holds v.y (value_at values y)
+IsReady (ArithStep op v x y z sh) inputs values = (x < length values) × (y < length values) × (z < length values) × Takes op v × HasArguments op v (value_at values x) (value_at values y) (value_at values z) × (sh ≤ 15)
 IsReady (Rescaled v x points) inputs values = (x < length values) × Holds v.x (value_at values x) × (points.a ≤ 15) × (points.c ≤ 15)
 
 -- each step is ready when its turn comes

@@ -5,8 +5,9 @@ ghost use Rattle.net_eval.specs.Steps.{AreReady, IsReady, step_value, value_at, 
 ghost use Rattle.net_eval.specs.Picking.{AreBelow};
 
 use crate::resolving::Step;
+use mfx_arith::call;
 use net_model::WireNo;
-use net_model::first::{add, convert};
+use net_model::first::convert;
 
 /// Evaluates one row: the values of all steps into a buffer, and those of the output wires into `out`.
 pub(crate) fn evaluate(
@@ -46,7 +47,7 @@ fn value_of(step: Step, inputs: &[i64], values: &[i64]) -> i64
     match step {
         Step::Read { place } => inputs[place],
         Step::Fixed { value } => value,
-        Step::Sum { v, x, y } => add(v, values[x], values[y]),
+        Step::Arith { op, v, x, y, z, sh } => call(op, v, values[x], values[y], values[z], sh),
         Step::Rescaled { v, x, points } => convert(v, values[x], points),
     }
 }

@@ -5,7 +5,8 @@ ghost use Rattle.net_model.specs.Wires.{input_place, point_of, wire_at};
 ghost use Rattle.net_model.specs.Validity.{IsValid};
 ghost use Rattle.net_eval.specs.Steps.{block_step, item_step, steps_of};
 
-use net_model::first::{ArithOp, Points, ScaledOp, Variant};
+use mfx_arith::{ArithOp, Variant};
+use net_model::first::{Points, ScaledOp};
 use net_model::{Block, Item, Kind, Network, WireNo};
 use std::alloc::{AllocError, Global};
 
@@ -20,11 +21,14 @@ pub(crate) enum Step {
     Fixed {
         value: i64,
     },
-    /// The sum of the values of two earlier wires.
-    Sum {
+    /// What an operation makes of the values of earlier wires.
+    Arith {
+        op: ArithOp,
         v: Variant,
         x: usize,
         y: usize,
+        z: usize,
+        sh: u8,
     },
     /// The value of an earlier wire at another binary point.
     Rescaled {
@@ -74,12 +78,13 @@ fn block_step(net: &Network, wire: WireNo, block: Block) -> Step
     ensures { result ≡ block_step net.now.wires (wire_at net.now.wires wire.0).kind block }
 {
     match block {
-        Block::Arith { op, v, x, y, .. } => match op {
-            ArithOp::Add => Step::Sum {
-                v,
-                x: x.0 as usize,
-                y: y.0 as usize,
-            },
+        Block::Arith { op, v, x, y, z, sh } => Step::Arith {
+            op,
+            v,
+            x: x.0 as usize,
+            y: y.0 as usize,
+            z: z.0 as usize,
+            sh,
         },
         Block::Scaled { op, v, x, y } => match op {
             ScaledOp::Convert => Step::Rescaled {

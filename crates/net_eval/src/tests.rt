@@ -66,3 +66,36 @@ fn evaluates_rows(rt: HostRuntime) -> Result<(), Fail> {
     assert_eq!(rt; answer(&net, &mut plan, &[1000, 160]), Some(1010));
     Ok(())
 }
+
+#[test]
+fn evaluates_arithmetic(rt: HostRuntime) -> Result<(), Fail> {
+    let table: [(&[u8], i64); 5] = [
+        (
+            b"net 1\nin a s16 -99 99\nin b s16 -99 99\nwire w s16 = Mfx_Mul_s16s16_s16 a b\nout w\n",
+            -21,
+        ),
+        (
+            b"net 1\nin a s16 -99 99\nin b s16 -99 99\nwire w s16 = Mfx_Div_s16s16_s16 a b\nout w\n",
+            -2,
+        ),
+        (
+            b"net 1\nin a s16 -99 99\nin b s16 -99 99\nwire w s16 = Mfx_MulDiv_s16s16s16_s16 a a b\nout w\n",
+            16,
+        ),
+        (
+            b"net 1\nin a s16 -99 99\nin b s16 -99 99\nwire w s16 = Mfx_Limit_s16 a b b\nout w\n",
+            3,
+        ),
+        (
+            b"net 1\nin a s16 -99 99\nin b s16 -99 99\nwire w s16 = Mfx_MulShRight_s16s16u8_s16 a b 1\nout w\n",
+            -10,
+        ),
+    ];
+    for (text, want) in table {
+        assert!(rt; text.len() < 1000);
+        let net = read_network(rt.alloc(), text)?;
+        let mut plan = Plan::new(rt.alloc(), &net)?;
+        assert_eq!(rt; answer(&net, &mut plan, &[-7, 3]), Some(want));
+    }
+    Ok(())
+}

@@ -4,7 +4,7 @@ use Rattle.std.specs.Prelude.{◌≡◌, List, [], ◌∷◌, map, ℤ, pos, neg
 use Rattle.fx_core.specs.Rounding.{rounded}
 use Rattle.fx_fraction.specs.Fraction.{whole, over, plus, times}
 use Rattle.fx_core.specs.declared.word_type.Ty.TheVariants.{S16}
-use Rattle.net_model.specs.declared.first.ArithOp.TheVariants.{Add}
+use Rattle.mfx_arith.specs.declared.operation.ArithOp.TheVariants.{Add}
 use Rattle.net_model.specs.declared.first.ScaledOp.TheVariants.{Convert}
 use Rattle.net_model.specs.declared.wires.Kind.TheVariants.{Num}
 use Rattle.net_model.specs.declared.wires.Block.TheVariants.{Arith, Scaled}

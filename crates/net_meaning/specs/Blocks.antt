@@ -11,7 +11,8 @@ use Rattle.net_model.specs.declared.wires.Block.{Block}
 use Rattle.net_model.specs.declared.wires.Block.TheVariants.{Arith, Scaled}
 use Rattle.net_model.specs.declared.wires.Wire.{Wire}
 use Rattle.net_model.specs.Wires.{wire_at, argument_of, point_of, kind_least, kind_greatest}
-use Rattle.net_model.specs.Formulas.{arith_formula, scaled_formula}
+use Rattle.net_model.specs.Formulas.{scaled_formula}
+use Rattle.mfx_arith.specs.Formulas.{arith_formula, quotient_of as arith_quotient}
 use Rattle.net_meaning.specs.Cells.{Cell, Meaning}
 
 -- the binary points of a block's arguments and of its own wire
@@ -25,7 +26,7 @@ mode_of (Scaled op v x y) = Zero
 
 -- a block's value, unrounded, from what it reads and its new state
 unfoldable pub formula : List Wire → Kind → Block → (ℕ → ℕ → Fraction) → Fraction → Fraction
-formula wires kind (Arith op v x y z sh) given state = arith_formula op (λ p. given p 0)
+formula wires kind (Arith op v x y z sh) given state = arith_formula op sh (λ p. given p 0)
 formula wires kind (Scaled op v x y) given state = scaled_formula op (points_of wires kind (Scaled op v x y)) (λ p. given p 0)
 
 -- the new state Y of a block, unrounded, from what it reads and its old state; none where the block has no Y
@@ -35,7 +36,7 @@ state_formula wires (Scaled op v x y) given old = None
 
 -- the dividend and the divisor of a block that divides
 unfoldable pub quotient_of : List Wire → Kind → Block → (ℕ → ℕ → Fraction) → Option (Fraction × Fraction)
-quotient_of wires kind (Arith op v x y z sh) given = None
+quotient_of wires kind (Arith op v x y z sh) given = arith_quotient op sh (λ p. given p 0)
 quotient_of wires kind (Scaled op v x y) given = None
 
 -- the least and the greatest state Y, which has 16 fractional bits

@@ -1,0 +1,67 @@
+-- The steps of Mfx arithmetic: what they are given, and the values that they give.
+use Rattle.std.proofs.Common.{◌≡◌, ℕ, ◌≤◌, List, [], ◌∷◌, length, ℤ, refl, sym, ap, ap₂, ◌∙◌, arith}
+use Rattle.std.specs.Prelude.{IfSome, slice_get}
+use Rattle.fx_fraction.specs.Fraction.{whole}
+use Rattle.fx_core.specs.declared.word_type.Ty.{Ty}
+use Rattle.fx_core.specs.declared.quotient.Mode.TheVariants.{Zero}
+use Rattle.fx_core.specs.Types.{Holds, least_of, greatest_of, saturated, saturated_to}
+use Rattle.fx_core.specs.Values.{unsaturated}
+use Rattle.mfx_arith.specs.declared.operation.ArithOp.{ArithOp}
+use Rattle.mfx_arith.specs.declared.operation.ArithOp.TheVariants.{Add, Abs, MulDiv, Limit, Min, Max, RateLimiter}
+use Rattle.mfx_arith.specs.declared.operation.Variant.{Variant}
+use Rattle.mfx_arith.specs.Operations.{argument_types, AreHeld, HasArguments}
+use Rattle.mfx_arith.specs.Formulas.{arith_formula, quotient_of}
+use Rattle.mfx_arith.specs.Calls.{three_given, value_in, arith_value}
+use Rattle.net_model.specs.declared.wires.Kind.{Kind}
+use Rattle.net_model.specs.declared.wires.Kind.TheVariants.{Num}
+use Rattle.net_model.specs.Wires.{kind_least, kind_greatest}
+
+-- ---- what is given
+
+-- a routine has at most three arguments
+few_types : (op : ArithOp) (v : Variant) → length (argument_types op v) ≤ 3
+few_types MulDiv v = omega arith
+few_types Abs v = omega arith
+few_types Limit v = omega arith
+few_types Min v = omega arith
+few_types Max v = omega arith
+few_types RateLimiter v = omega arith
+few_types other v = omega arith
+
+-- numbers of at most three types, one by one
+held_types : (types : List Ty) (x y z : ℤ) → length types ≤ 3 → IfSome (slice_get types 0) (λ t. Holds t x) → IfSome (slice_get types 1) (λ t. Holds t y) → IfSome (slice_get types 2) (λ t. Holds t z) → AreHeld types (x ∷ y ∷ z ∷ [])
+held_types [] x y z few h k l = tt
+held_types (s ∷ []) x y z few h k l = (h, tt)
+held_types (s ∷ t ∷ []) x y z few h k l = (h, (k, tt))
+held_types (s ∷ t ∷ u ∷ []) x y z few h k l = (h, (k, (l, tt)))
+held_types (s ∷ t ∷ u ∷ w ∷ more) x y z few h k l = absurd (omega arith)
+
+pub arguments_held : (op : ArithOp) (v : Variant) (x y z : ℤ) → IfSome (slice_get (argument_types op v) 0) (λ t. Holds t x) → IfSome (slice_get (argument_types op v) 1) (λ t. Holds t y) → IfSome (slice_get (argument_types op v) 2) (λ t. Holds t z) → HasArguments op v x y z
+arguments_held op v x y z h k l = held_types (argument_types op v) x y z (few_types op v) h k l
+
+-- ---- the value
+
+-- a formula reads no more than three arguments
+formula_reads : (op : ArithOp) (sh : ℕ) (m : ℕ → ℤ) → arith_formula op sh (three_given (m 0) (m 1) (m 2)) ≡ arith_formula op sh (λ p. whole (m p))
+formula_reads Add sh m = refl
+formula_reads other sh m = refl
+
+quotient_reads : (op : ArithOp) (sh : ℕ) (m : ℕ → ℤ) → quotient_of op sh (three_given (m 0) (m 1) (m 2)) ≡ quotient_of op sh (λ p. whole (m p))
+quotient_reads Add sh m = refl
+quotient_reads other sh m = refl
+
+-- the value of an operation between the ends of a kind, from its arguments by number
+abbrev pub value_between : ArithOp → Kind → (ℕ → ℤ) → ℕ → ℤ
+value_between op kind m sh = saturated_to (kind_least kind) (kind_greatest kind) (unsaturated Zero (kind_least kind) (kind_greatest kind) (quotient_of op sh (λ p. whole (m p))) (arith_formula op sh (λ p. whole (m p))))
+
+-- a routine's value on a wire of its output's type
+pub arith_value-is : (op : ArithOp) (t : Ty) (kind : Kind) (point : ℕ) (m : ℕ → ℤ) (sh : ℕ) → kind ≡ Num t point → arith_value op t (m 0) (m 1) (m 2) sh ≡ value_between op kind m sh
+unfolding arith_value value_in
+arith_value-is op t kind point m sh e =
+    ap₂ (λ q f. saturated t (unsaturated Zero (least_of t) (greatest_of t) q f)) (quotient_reads op sh m) (formula_reads op sh m)
+    ∙ ap (λ k. value_between op k m sh) (sym e)
+
+-- of other names of the same arguments
+pub arith_value-same : (op : ArithOp) (t : Ty) (x y z x' y' z' : ℤ) (sh : ℕ) → x ≡ x' → y ≡ y' → z ≡ z' → arith_value op t x y z sh ≡ arith_value op t x' y' z' sh
+arith_value-same op t x y z x' y' z' sh h k l =
+    ap₂ (λ a b. arith_value op t a b z sh) h k ∙ ap (λ c. arith_value op t x' y' c sh) l
