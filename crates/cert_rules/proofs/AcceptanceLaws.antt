@@ -2,13 +2,20 @@
 use Rattle.std.specs.Prelude.{◌≡◌, ℕ, zero, suc, ◌+◌, ◌<◌, ◌≤◌, Bool, true, false, List, length, IsTrue, Option, Some, None}
 use Rattle.std.proofs.Common.{refl, ap, ◌∙◌, arith, inl, inr}
 use Rattle.std.proofs.lemmas.Bool.{cases_eq, false≢true}
-use Rattle.net_model.specs.declared.wires.Block.{Block}
+use Rattle.mfx_arith.specs.declared.operation.ArithOp.{ArithOp}
+use Rattle.mfx_arith.specs.declared.operation.ArithOp.TheVariants.{Mod}
+use Rattle.mfx_arith.specs.declared.operation.Variant.{Variant}
+use Rattle.net_model.specs.declared.wires.WireNo.{WireNo}
+use Rattle.net_model.specs.Built.{is_built}
 use Rattle.net_model.specs.declared.wires.Block.TheVariants.{Arith, Scaled}
 use Rattle.net_model.specs.declared.wires.Item.{Item}
 use Rattle.net_model.specs.declared.wires.Item.TheVariants.{Input, Const, Block as OfBlock}
 use Rattle.net_model.specs.declared.wires.Wire.{Wire}
-use Rattle.net_model.specs.Wires.{wire_at, parts_of}
+use Rattle.net_model.specs.Wires.{NetData, wire_at, parts_of}
+use Rattle.net_model.specs.Validity.{IsValid}
+use Rattle.net_model.proofs.ValidityFacts.{arith-valid}
 use Rattle.cert_rules.specs.declared.bounds.Bounds.{Bounds}
+use Rattle.cert_rules.specs.ArithSoundness.{has_rule}
 use Rattle.cert_rules.specs.Acceptance.{is_smooth, IsSmooth, Accepts, is_sound_at, is_inductive_at, first_failing, or_later, first_rejected}
 use Rattle.cert_rules.specs.Theorem.{AcceptsExactly, AllAreSmooth}
 
@@ -76,14 +83,20 @@ accepts_exactly wires entries smooth complete = (accepts_from_none_rejected wire
 
 -- ---- smoothness
 
-smooth_block : (b : Block) → IsTrue (is_smooth (OfBlock b))
-smooth_block (Arith op v x y z sh) = refl
-smooth_block (Scaled op v x y) = refl
+-- each built operation has a rule
+pub ruled_if_built : (op : ArithOp) → is_built op ≡ true → has_rule op ≡ true
+ruled_if_built Mod h = absurd (false≢true h)
+ruled_if_built other h = refl
 
-smooth_item : (item : Item) → IsTrue (is_smooth item)
-smooth_item (Input lo hi) = refl
-smooth_item (Const value) = refl
-smooth_item (OfBlock b) = smooth_block b
+smooth_with_rule : (op : ArithOp) (v : Variant) (x y z : WireNo) (sh : ℕ) → has_rule op ≡ true → IsTrue (is_smooth (OfBlock (Arith op v x y z sh)))
+smooth_with_rule Mod v x y z sh h = absurd (false≢true h)
+smooth_with_rule other v x y z sh h = refl
+
+smooth_item : (net : NetData) (i : ℕ) (item : Item) → IsValid net → i < length net.wires → (wire_at net.wires i).item ≡ item → IsTrue (is_smooth item)
+smooth_item net i (Input lo hi) valid h e = refl
+smooth_item net i (Const value) valid h e = refl
+smooth_item net i (OfBlock (Arith op v x y z sh)) valid h e = smooth_with_rule op v x y z sh (ruled_if_built op (arith-valid net i op v x y z sh valid h e).built)
+smooth_item net i (OfBlock (Scaled op v x y)) valid h e = refl
 
 pub all_are_smooth : AllAreSmooth
-all_are_smooth wires i h = smooth_item (wire_at wires i).item
+all_are_smooth net valid i h = smooth_item net i (wire_at net.wires i).item valid h refl

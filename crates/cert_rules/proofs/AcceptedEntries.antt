@@ -52,9 +52,9 @@ given_of false true b entry h =
 abbrev pub proposal : List Wire → List Bounds → ℕ → Bounds
 proposal wires entries i = proposed wires (wire_at wires i).kind (wire_at wires i).item (λ w. entry_of wires entries w Value)
 
--- the entry of a wire's value: its divisor isn't 0, and its rule's bounds lie in the kind and within the entry
+-- the entry of a wire's value: it gets bounds, and these lie in the kind and within the entry
 pub record EntryHolds (wires : List Wire) (entries : List Bounds) (i : ℕ) : Type 0 where
-  pub divides : may_fail (wire_at wires i).item (λ w. entry_of wires entries w Value) ≡ false
+  pub ruled : may_fail (wire_at wires i).item (λ w. entry_of wires entries w Value) ≡ false
   pub least : kind_least (wire_at wires i).kind ≤ℤ (proposal wires entries i).lo
   pub greatest : (proposal wires entries i).hi ≤ℤ kind_greatest (wire_at wires i).kind
   pub inside : IsInside (proposal wires entries i) (entry_of wires entries i Value)
@@ -82,4 +82,4 @@ pub entry_holds : (wires : List Wire) (entries : List Bounds) (i : ℕ) → Acce
 entry_holds wires entries i accepts h =
     let given = rule_gives wires entries i accepts h in
     let ends = allowed_ends (wire_at wires i).kind (proposal wires entries i) given.permits in
-    record { divides = given.succeeds; least = ends.0; greatest = ends.1; inside = given.inside }
+    record { ruled = given.succeeds; least = ends.0; greatest = ends.1; inside = given.inside }

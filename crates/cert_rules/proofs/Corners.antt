@@ -1,28 +1,26 @@
 -- The range of a block's value by the ends of its arguments' ranges alone: at the other corners it is between.
-use Rattle.std.proofs.Common.{◌≡◌, ℕ, suc, ◌+◌, ◌-◌, ◌*◌, ◌^◌, ◌≤◌, ◌<◌, Bool, true, false, cond, ℤ, pos, negsuc, ◌+ℤ◌, ◌-ℤ◌, ◌*ℤ◌, ◌≤ℤ◌, List, [], ◌∷◌, fold, refl, ap, ap₂, pred, ◌∙◌, arith, nat_le, pow_pos, leb-false, leb-true}
+use Rattle.std.proofs.Common.{◌≡◌, ℕ, suc, ◌+◌, ◌-◌, ◌*◌, ◌^◌, ◌≤◌, ◌<◌, Bool, true, false, cond, ℤ, pos, negsuc, ◌-ℤ◌, ◌*ℤ◌, ◌≤ℤ◌, List, [], ◌∷◌, fold, refl, ap, ap₂, pred, ◌∙◌, arith, nat_le, pow_pos, leb-false, leb-true}
 use Rattle.std.specs.Int.{int_min, int_max}
 use Rattle.std.proofs.lemmas.Int.{ints, clamps}
 use borrow.Author.Differences.{at_most_in, same_in}
-use Rattle.fx_fraction.specs.Fraction.{whole, over, plus, times}
+use Rattle.fx_fraction.specs.Fraction.{whole, over, times}
 use Rattle.fx_fraction.proofs.WholeNumbers.{int_le-mul_pos}
 use Rattle.fx_core.specs.declared.quotient.Mode.TheVariants.{Zero}
 use Rattle.fx_core.specs.Rounding.{rounded, power, shifted_rounded}
 use Rattle.fx_core.specs.Values.{rounded_fraction}
 use Rattle.fx_core.proofs.RoundingLaws.{rounded_by_one, rounded_monotone}
-use Rattle.net_model.specs.declared.first.Variant.{Variant}
-use Rattle.net_model.specs.declared.first.ArithOp.TheVariants.{Add}
+use Rattle.mfx_arith.specs.declared.operation.Variant.{Variant}
 use Rattle.net_model.specs.declared.first.ScaledOp.TheVariants.{Convert}
 use Rattle.net_model.specs.declared.wires.WireNo.{WireNo}
 use Rattle.net_model.specs.declared.wires.Kind.{Kind}
-use Rattle.net_model.specs.declared.wires.Block.TheVariants.{Arith, Scaled}
+use Rattle.net_model.specs.declared.wires.Block.TheVariants.{Scaled}
 use Rattle.net_model.specs.declared.wires.Item.TheVariants.{Block as OfBlock}
 use Rattle.net_model.specs.declared.wires.Wire.{Wire}
 use Rattle.net_model.specs.Formulas.{point_factor}
 use Rattle.net_model.specs.Wires.{wire_at, point_of}
-use Rattle.net_meaning.specs.Blocks.{formula}
 use Rattle.cert_rules.specs.declared.bounds.Bounds.{Bounds}
 use Rattle.cert_rules.specs.Ranges.{corner_values}
-use Rattle.cert_rules.specs.Rules.{converted_error, error_of, proposed}
+use Rattle.cert_rules.specs.Rules.{converted_error, scaled_bounds, proposed}
 
 -- ---- the ends of a hull
 
@@ -33,23 +31,7 @@ least_of_two a b h = omega (arith, ints, clamps)
 pub greatest_of_two : (a b : ℤ) → a ≤ℤ b → fold int_max a (b ∷ []) ≡ b
 greatest_of_two a b h = omega (arith, ints, clamps)
 
--- the same of four, of which one is the least and another the greatest
-pub least_of_four : (a b c d : ℤ) → a ≤ℤ b → a ≤ℤ c → a ≤ℤ d → fold int_min a (b ∷ c ∷ d ∷ []) ≡ a
-least_of_four a b c d h k l =
-    ap (λ m. fold int_min m (c ∷ d ∷ [])) (least_of_two a b h) ∙ ap (λ m. fold int_min m (d ∷ [])) (least_of_two a c k) ∙ least_of_two a d l
-
-greater_below : (a b d : ℤ) → a ≤ℤ d → b ≤ℤ d → int_max a b ≤ℤ d
-greater_below a b d h k = at_most_in _ _ (omega (arith, ints, clamps, h, k))
-
-pub greatest_of_four : (a b c d : ℤ) → a ≤ℤ d → b ≤ℤ d → c ≤ℤ d → fold int_max a (b ∷ c ∷ d ∷ []) ≡ d
-greatest_of_four a b c d h k l =
-    greatest_of_two (int_max (int_max a b) c) d (greater_below (int_max a b) c d (greater_below a b d h k) l)
-
 -- ---- a block's value at a corner
-
-pub sum_at : (a b : ℤ) → rounded_fraction Zero (plus (whole a) (whole b)) ≡ a +ℤ b
-unfolding plus whole
-sum_at a b = rounded_by_one Zero (a *ℤ pos 1 +ℤ b *ℤ pos 1) ∙ same_in _ _ (omega (arith, ints))
 
 -- a change of the point to the left multiplies, one to the right rounds
 factor_left : (z : ℤ) (k : ℕ) → rounded_fraction Zero (times (whole z) (whole (pos (2 ^ k)))) ≡ z *ℤ power k
@@ -101,29 +83,11 @@ shift_order y z (negsuc e) h = rounded_monotone Zero y z (power (suc e)) (at_mos
 
 -- ---- the bounds of blocks
 
-abbrev pub sum_of : Bounds → Bounds → Bounds
-sum_of x y = record { lo = x.lo +ℤ y.lo; hi = x.hi +ℤ y.hi; err = x.err +ℤ y.err }
-
 abbrev pub converted_of : ℕ → ℕ → Bounds → Bounds
 converted_of a c x = record { lo = shifted_rounded Zero x.lo (pos c -ℤ pos a); hi = shifted_rounded Zero x.hi (pos c -ℤ pos a); err = converted_error a c x.err }
 
 same_bounds : (lo hi err lo' hi' : ℤ) → lo ≡ lo' → hi ≡ hi' → ◌≡◌ {A = Bounds} (record { lo = lo; hi = hi; err = err }) (record { lo = lo'; hi = hi'; err = err })
 same_bounds lo hi err lo' hi' p q = ap₂ (λ (l h : ℤ). record { lo = l; hi = h; err = err }) p q
-
-abbrev sum_corner : ℤ → ℤ → ℤ
-sum_corner a b = rounded_fraction Zero (plus (whole a) (whole b))
-
-sum_least : (a b c d : ℤ) → a ≤ℤ b → c ≤ℤ d → fold int_min (sum_corner a c) (sum_corner a d ∷ sum_corner b c ∷ sum_corner b d ∷ []) ≡ a +ℤ c
-sum_least a b c d h k =
-    rw (sum_at a c, sum_at a d, sum_at b c, sum_at b d) (least_of_four (a +ℤ c) (a +ℤ d) (b +ℤ c) (b +ℤ d) (at_most_in _ _ (omega (arith, ints, h, k))) (at_most_in _ _ (omega (arith, ints, h, k))) (at_most_in _ _ (omega (arith, ints, h, k))))
-
-sum_greatest : (a b c d : ℤ) → a ≤ℤ b → c ≤ℤ d → fold int_max (sum_corner a c) (sum_corner a d ∷ sum_corner b c ∷ sum_corner b d ∷ []) ≡ b +ℤ d
-sum_greatest a b c d h k =
-    rw (sum_at a c, sum_at a d, sum_at b c, sum_at b d) (greatest_of_four (a +ℤ c) (a +ℤ d) (b +ℤ c) (b +ℤ d) (at_most_in _ _ (omega (arith, ints, h, k))) (at_most_in _ _ (omega (arith, ints, h, k))) (at_most_in _ _ (omega (arith, ints, h, k))))
-
-pub sum_is : (wires : List Wire) (kind : Kind) (v : Variant) (x y z : WireNo) (sh : ℕ) (known : ℕ → Bounds) → (known x.0).lo ≤ℤ (known x.0).hi → (known y.0).lo ≤ℤ (known y.0).hi → proposed wires kind (OfBlock (Arith Add v x y z sh)) known ≡ sum_of (known x.0) (known y.0)
-unfolding proposed corner_values error_of formula
-sum_is wires kind v x y z sh known h k = same_bounds _ _ _ _ _ (sum_least _ _ _ _ h k) (sum_greatest _ _ _ _ h k)
 
 abbrev converted_corner : ℕ → ℕ → ℤ → ℤ
 converted_corner a c z = rounded_fraction Zero (times (whole z) (point_factor a c))
@@ -137,5 +101,5 @@ converted_greatest a c y z h =
     rw (converted_at y a c, converted_at z a c) (greatest_of_two _ _ (shift_order y z (pos c -ℤ pos a) h))
 
 pub converted_is : (wires : List Wire) (kind : Kind) (v : Variant) (x y : WireNo) (known : ℕ → Bounds) → (known x.0).lo ≤ℤ (known x.0).hi → proposed wires kind (OfBlock (Scaled Convert v x y)) known ≡ converted_of (point_of (wire_at wires x.0).kind) (point_of kind) (known x.0)
-unfolding proposed corner_values error_of formula
+unfolding proposed scaled_bounds corner_values
 converted_is wires kind v x y known h = same_bounds _ _ _ _ _ (converted_least _ _ _ _ h) (converted_greatest _ _ _ _ h)

@@ -1,5 +1,5 @@
 -- Where the entry of a wire stands, and how small sound entries are.
-use Rattle.std.proofs.Common.{◌≡◌, ℕ, ◌<◌, ◌≤◌, ◌^◌, Bool, true, ◌&&◌, List, length, get_or, ℤ, pos, negsuc, ◌≤ℤ◌, int_le, int_lt, sym, ap, ◌∙◌, FitsSigned, to_z, of_z, w64}
+use Rattle.std.proofs.Common.{◌≡◌, ℕ, ◌<◌, ◌≤◌, ◌^◌, Bool, true, ◌&&◌, List, length, get_or, ℤ, pos, negsuc, ◌≤ℤ◌, int_le, int_lt, sym, ap, ◌∙◌, subst, FitsSigned, to_z, of_z, w64}
 use Rattle.std.proofs.lemmas.Bool.{and_parts}
 use Rattle.std.proofs.lemmas.Int.{to_z-of_z}
 use Rattle.fx_fraction.proofs.WholeNumbers.{int_le-true, int_lt-true, int_le_trans}
@@ -10,6 +10,7 @@ use Rattle.net_model.specs.declared.wires.Kind.{Kind}
 use Rattle.net_model.specs.declared.wires.Kind.TheVariants.{Num, Truth}
 use Rattle.net_model.specs.declared.wires.Role.{Role}
 use Rattle.net_model.specs.declared.wires.Role.TheVariants.{Value}
+use Rattle.net_model.specs.declared.wires.Part.{Part}
 use Rattle.net_model.specs.declared.wires.Wire.{Wire}
 use Rattle.net_model.specs.Wires.{NetData, wire_at, kind_least, kind_greatest, point_of, parts_of}
 use Rattle.net_model.specs.Validity.{IsValid}
@@ -44,15 +45,15 @@ greatest_of-high S16 = record { le = tt }
 greatest_of-high U32 = record { le = tt }
 greatest_of-high S32 = record { le = tt }
 
-kind_least-low : (kind : Kind) → negsuc 2147483647 ≤ℤ kind_least kind
+pub kind_least-low : (kind : Kind) → negsuc 2147483647 ≤ℤ kind_least kind
 kind_least-low (Num ty point) = least_of-low ty
 kind_least-low Truth = record { le = tt }
 
-kind_greatest-high : (kind : Kind) → kind_greatest kind ≤ℤ pos 4294967295
+pub kind_greatest-high : (kind : Kind) → kind_greatest kind ≤ℤ pos 4294967295
 kind_greatest-high (Num ty point) = greatest_of-high ty
 kind_greatest-high Truth = record { le = tt }
 
-three_tests : (a b c : Bool) → (a && b && c) ≡ true → (a ≡ true) × (b ≡ true) × (c ≡ true)
+pub three_tests : (a b c : Bool) → (a && b && c) ≡ true → (a ≡ true) × (b ≡ true) × (c ≡ true)
 three_tests a b c h =
     let h1 = and_parts (a && b) c h in
     let h2 = and_parts a b h1.0 in
@@ -79,6 +80,25 @@ small_from_sound wires entries k h =
 pub small_entry : (wires : List Wire) (entries : List Bounds) → AreSound wires entries → (w : ℕ) → w < length wires → IsSmall (entry_at entries w)
 small_entry wires entries sound w h =
     small_from_sound wires entries w (sound w (rw (length-parts_of wires) h))
+
+-- a sound entry isn't below its wire's kind
+low_from_tests : (kind : Kind) (role : Role) (b : Bounds) → is_allowed kind role b ≡ true → kind_least kind ≤ℤ b.lo
+unfolding is_allowed
+low_from_tests kind Value b h =
+    let t = three_tests (int_le (kind_least kind) b.lo) _ _ h in
+    int_le-true (kind_least kind) b.lo t.0
+
+low_from_sound : (wires : List Wire) (entries : List Bounds) (k : ℕ) → is_sound_at wires entries k ≡ true → kind_least (wire_at wires (part_at wires k).wire.0).kind ≤ℤ (entry_at entries k).lo
+unfolding is_sound_at
+low_from_sound wires entries k h =
+    let t = three_tests _ _ _ h in
+    low_from_tests _ _ (entry_at entries k) t.0
+
+pub entry_low : (wires : List Wire) (entries : List Bounds) → AreSound wires entries → (w : ℕ) → w < length wires → kind_least (wire_at wires w).kind ≤ℤ (entry_of wires entries w Value).lo
+entry_low wires entries sound w h =
+    let low = low_from_sound wires entries w (sound w (rw (length-parts_of wires) h)) in
+    let at_wire : kind_least (wire_at wires w).kind ≤ℤ (entry_at entries w).lo = subst (λ (p : Part). kind_least (wire_at wires p.wire.0).kind ≤ℤ (entry_at entries w).lo) (get_or-parts_of wires w h) low in
+    rw (entry_of-value wires entries w h) at_wire
 
 -- the three tests of bounds, whatever the role
 pub allowed_from_tests : (kind : Kind) (role : Role) (b : Bounds) (least greatest : ℤ) (t : Bool) → FitsSigned w64 least → FitsSigned w64 greatest → least ≡ part_least kind Value → greatest ≡ part_greatest kind Value → t ≡ (int_le (to_z w64 (of_z w64 least)) b.lo && int_le b.hi (to_z w64 (of_z w64 greatest)) && int_lt b.err (pos (2 ^ 40))) → t ≡ is_allowed kind role b

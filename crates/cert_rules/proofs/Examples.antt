@@ -1,21 +1,21 @@
 -- A worked network by the definitions: `b` at the binary point 4 is converted to the point 0 and added to `a`. Its
 -- certificate is accepted; with a smaller error of the conversion, or a smaller range of the sum, the part fails.
-use Rattle.std.specs.Prelude.{◌≡◌, ℕ, List, [], ◌∷◌, pos, negsuc, Some, None, refl, codes}
+use Rattle.std.specs.Prelude.{◌≡◌, ℕ, ℤ, List, [], ◌∷◌, pos, negsuc, Some, None, refl, codes}
 use Rattle.fx_core.specs.Rounding.{rounded, least_quotient_above}
-use Rattle.fx_fraction.specs.Fraction.{whole, over, plus, times}
-use Rattle.fx_core.specs.declared.word_type.Ty.TheVariants.{S16}
-use Rattle.net_model.specs.declared.first.ArithOp.TheVariants.{Add}
+use Rattle.fx_fraction.specs.Fraction.{whole, over, plus, times, quotient, divided}
+use Rattle.fx_core.specs.declared.word_type.Ty.TheVariants.{S16, S32}
+use Rattle.mfx_arith.specs.declared.operation.ArithOp.TheVariants.{Add, Mul, Div}
 use Rattle.net_model.specs.declared.first.ScaledOp.TheVariants.{Convert}
 use Rattle.net_model.specs.declared.wires.Kind.TheVariants.{Num}
 use Rattle.net_model.specs.declared.wires.Block.TheVariants.{Arith, Scaled}
 use Rattle.net_model.specs.declared.wires.Item.TheVariants.{Input, Block as OfBlock}
 use Rattle.net_model.specs.declared.wires.Wire.{Wire}
 use Rattle.net_model.specs.Formulas.{point_factor}
-use Rattle.net_meaning.specs.Blocks.{formula}
 use Rattle.cert_rules.specs.declared.bounds.Bounds.{Bounds}
 use Rattle.cert_rules.specs.Certificates.{entry_of}
 use Rattle.cert_rules.specs.Ranges.{corner_values}
-use Rattle.cert_rules.specs.Rules.{error_of, proposed, rule_of, is_allowed}
+use Rattle.cert_rules.specs.ArithRules.{arith_bounds, arith_values, product_error, quotient_error}
+use Rattle.cert_rules.specs.Rules.{scaled_bounds, proposed, rule_of, is_allowed}
 use Rattle.cert_rules.specs.Acceptance.{is_sound_at, is_inductive_at, first_failing, first_rejected}
 
 wires : List Wire
@@ -33,13 +33,41 @@ entries error highest =
     record { lo = negsuc 9; hi = pos highest; err = pos 65536 } ∷ []
 
 accepted : first_rejected wires (entries 65536 1010) ≡ None
-unfolding wires entries first_rejected first_failing is_sound_at is_inductive_at rule_of is_allowed proposed error_of corner_values entry_of formula point_factor rounded least_quotient_above whole over plus times
+unfolding wires entries first_rejected first_failing is_sound_at is_inductive_at rule_of is_allowed proposed scaled_bounds corner_values arith_bounds arith_values entry_of point_factor rounded least_quotient_above whole over plus times
 accepted = refl
 
 error_too_small : first_rejected wires (entries 65535 1010) ≡ Some 2
-unfolding wires entries first_rejected first_failing is_sound_at is_inductive_at rule_of is_allowed proposed error_of corner_values entry_of formula point_factor rounded least_quotient_above whole over plus times
+unfolding wires entries first_rejected first_failing is_sound_at is_inductive_at rule_of is_allowed proposed scaled_bounds corner_values arith_bounds arith_values entry_of point_factor rounded least_quotient_above whole over plus times
 error_too_small = refl
 
 range_too_small : first_rejected wires (entries 65536 1009) ≡ Some 3
-unfolding wires entries first_rejected first_failing is_sound_at is_inductive_at rule_of is_allowed proposed error_of corner_values entry_of formula point_factor rounded least_quotient_above whole over plus times
+unfolding wires entries first_rejected first_failing is_sound_at is_inductive_at rule_of is_allowed proposed scaled_bounds corner_values arith_bounds arith_values entry_of point_factor rounded least_quotient_above whole over plus times
 range_too_small = refl
+
+-- a product and a quotient of `x` and `z`: a quotient is rounded, so its error is one raw count
+quotient_wires : List Wire
+quotient_wires =
+    record { name = codes "x"; kind = Num S16 0; item = Input (negsuc 2) (pos 5) } ∷
+    record { name = codes "z"; kind = Num S16 0; item = Input (pos 2) (pos 4) } ∷
+    record { name = codes "p"; kind = Num S32 0; item = OfBlock (Arith Mul (record { x = S16; y = S16; o = S32 }) (record { 0 = 0 }) (record { 0 = 1 }) (record { 0 = 0 }) 0) } ∷
+    record { name = codes "q"; kind = Num S16 0; item = OfBlock (Arith Div (record { x = S16; y = S16; o = S16 }) (record { 0 = 0 }) (record { 0 = 1 }) (record { 0 = 0 }) 0) } ∷ []
+
+quotient_entries : ℤ → ℕ → List Bounds
+quotient_entries lowest error =
+    record { lo = negsuc 2; hi = pos 5; err = pos 0 } ∷
+    record { lo = lowest; hi = pos 4; err = pos 0 } ∷
+    record { lo = negsuc 11; hi = pos 20; err = pos 0 } ∷
+    record { lo = negsuc 0; hi = pos 2; err = pos error } ∷ []
+
+quotient_accepted : first_rejected quotient_wires (quotient_entries (pos 2) 65536) ≡ None
+unfolding quotient_wires quotient_entries first_rejected first_failing is_sound_at is_inductive_at rule_of is_allowed proposed arith_bounds arith_values product_error quotient_error entry_of rounded least_quotient_above quotient divided whole times
+quotient_accepted = refl
+
+quotient_error_too_small : first_rejected quotient_wires (quotient_entries (pos 2) 65535) ≡ Some 3
+unfolding quotient_wires quotient_entries first_rejected first_failing is_sound_at is_inductive_at rule_of is_allowed proposed arith_bounds arith_values product_error quotient_error entry_of rounded least_quotient_above quotient divided whole times
+quotient_error_too_small = refl
+
+-- an entry of `z` that holds 0 lets the divisor be 0, so that no entry of `q` is accepted
+divisor_may_be_zero : first_failing (is_inductive_at quotient_wires (quotient_entries (pos 0) 65536)) 3 1 ≡ Some 3
+unfolding quotient_wires quotient_entries first_rejected first_failing is_sound_at is_inductive_at rule_of is_allowed proposed arith_bounds arith_values product_error quotient_error entry_of rounded least_quotient_above quotient divided whole times
+divisor_may_be_zero = refl

@@ -1,25 +1,23 @@
--- The rule of each routine is sound: where its arguments are within their bounds, its rounded value is within those of
--- its rule. One lemma for each routine.
-use Rattle.std.specs.Prelude.{◌≡◌, ℕ, suc, pred, ◌*◌, ◌-◌, ◌^◌, ◌≤◌, Bool, true, false, List, [], ◌∷◌, ℤ, pos, ◌+ℤ◌, ◌*ℤ◌, ◌≤ℤ◌, nat_le}
+-- The rule of a conversion is sound: where its argument is within its bounds, its rounded value is within those of its
+-- rule.
+use Rattle.std.specs.Prelude.{◌≡◌, ℕ, suc, pred, ◌*◌, ◌-◌, ◌^◌, ◌≤◌, Bool, true, false, List, ℤ, pos, ◌+ℤ◌, ◌*ℤ◌, ◌≤ℤ◌, nat_le}
 use Rattle.std.specs.Prelude.{cond}
 use Rattle.std.proofs.Common.{ap₂, ◌∙◌, subst, arith}
 use Rattle.std.proofs.lemmas.Nat.{pow_pos}
 use native.Mathlib.Nat.{suc-pred-eq_of_pos}
-use Rattle.fx_fraction.specs.Fraction.{Fraction, denom, whole, over, plus, times, distance, AtMost, Is}
-use Rattle.fx_fraction.proofs.WholeNumbers.{int_le-add, int_le-mul_pos, int_mul-one, int_le-pos}
-use Rattle.fx_fraction.proofs.Denominators.{is_whole, is_over, is_plus, is_times, common_two, is_self}
+use Rattle.fx_fraction.specs.Fraction.{Fraction, denom, whole, over, times, distance, AtMost, Is}
+use Rattle.fx_fraction.proofs.WholeNumbers.{int_le-mul_pos, int_mul-one, int_le-pos}
+use Rattle.fx_fraction.proofs.Denominators.{is_whole, is_over, is_times, is_self}
 use Rattle.fx_fraction.proofs.Distances.{error_bound, bound_of_error}
-use Rattle.fx_core.specs.declared.quotient.Mode.{Mode}
 use Rattle.fx_core.specs.declared.quotient.Mode.TheVariants.{Zero}
 use Rattle.fx_core.specs.Rounding.{rounded, least_quotient_above}
 use Rattle.fx_core.specs.Values.{rounded_fraction}
 use Rattle.fx_core.proofs.RoundingLaws.{rounded_by_one, rounded_monotone, rounded-error, least_quotient_above_bounds}
-use Rattle.net_model.specs.declared.first.ArithOp.TheVariants.{Add}
 use Rattle.net_model.specs.declared.first.ScaledOp.TheVariants.{Convert}
-use Rattle.net_model.specs.declared.first.Variant.{Variant}
+use Rattle.mfx_arith.specs.declared.operation.Variant.{Variant}
 use Rattle.net_model.specs.declared.wires.WireNo.{WireNo}
 use Rattle.net_model.specs.declared.wires.Kind.{Kind}
-use Rattle.net_model.specs.declared.wires.Block.TheVariants.{Arith, Scaled}
+use Rattle.net_model.specs.declared.wires.Block.TheVariants.{Scaled}
 use Rattle.net_model.specs.declared.wires.Item.TheVariants.{Block as OfBlock}
 use Rattle.net_model.specs.declared.wires.Wire.{Wire}
 use Rattle.net_model.specs.Wires.{argument_of}
@@ -27,10 +25,10 @@ use Rattle.net_model.specs.Formulas.{point_factor}
 use Rattle.net_meaning.specs.Blocks.{formula, mode_of, as_fractions, points_of}
 use Rattle.cert_rules.specs.declared.bounds.Bounds.{Bounds}
 use Rattle.cert_rules.specs.Certificates.{IsWithin}
-use Rattle.cert_rules.specs.Ranges.{corner_values, value_at_corner}
-use Rattle.cert_rules.specs.Rules.{proposed, error_of, converted_error}
+use Rattle.cert_rules.specs.Ranges.{corner_values}
+use Rattle.cert_rules.specs.Rules.{arguments_of, proposed, scaled_bounds, converted_error}
 use Rattle.cert_rules.proofs.Hulls.{IsInHull, hull_holds}
-use Rattle.cert_rules.proofs.Errors.{IsNear, near-plus, near-times, near-narrowed}
+use Rattle.cert_rules.proofs.Errors.{IsNear, near-times, near-narrowed}
 
 -- ---- errors in units of 1/65536, between fractions
 
@@ -39,33 +37,6 @@ near_of m err x d e i h = record { near = bound_of_error m err x 65536 d e (omeg
 
 of_near : (m err x : ℤ) (d : ℕ) (e : Fraction) → Is e d x → IsNear 65536 d m x err → AtMost (distance (whole m) e) (over err 65536)
 of_near m err x d e i h = error_bound m err x 65536 d e (omega arith) i h.near
-
--- ---- sums
-
--- a sum of whole numbers is rounded to itself
-pub rounded-sum : (mode : Mode) (a b : ℤ) → rounded_fraction mode (plus (whole a) (whole b)) ≡ a +ℤ b
-unfolding plus whole
-rounded-sum mode a b = rounded_by_one mode (a *ℤ pos 1 +ℤ b *ℤ pos 1) ∙ ap₂ (λ s t. s +ℤ t) (int_mul-one a) (int_mul-one b)
-
-pub sum-near : (m n err fel : ℤ) (e f : Fraction) → AtMost (distance (whole m) e) (over err 65536) → AtMost (distance (whole n) f) (over fel 65536) → AtMost (distance (whole (m +ℤ n)) (plus e f)) (over (err +ℤ fel) 65536)
-sum-near m n err fel e f p q =
-    let c = common_two e f in
-    of_near _ _ _ _ _ (is_plus c.first c.second) (near-plus _ _ _ _ _ _ _ _ (near_of m err c.x c.bottom e c.first p) (near_of n fel c.y c.bottom f c.second q))
-
-pub add_is_sound : (wires : List Wire) (kind : Kind) (v : Variant) (x y z : WireNo) (sh : ℕ) (known : ℕ → Bounds) (m : ℕ → ℕ → ℤ) (e : ℕ → ℕ → Fraction) → ((p : ℕ) → IsWithin (known (argument_of (Arith Add v x y z sh) p)) (m p 0) (e p 0)) → IsWithin (proposed wires kind (OfBlock (Arith Add v x y z sh)) known) (rounded_fraction (mode_of (Arith Add v x y z sh)) (formula wires kind (Arith Add v x y z sh) (as_fractions m) (whole (pos 0)))) (formula wires kind (Arith Add v x y z sh) e (whole (pos 0)))
-unfolding proposed formula error_of corner_values
-add_is_sound wires kind v x y z sh known m e given =
-    let a = given 0 in
-    let b = given 1 in
-    let value : rounded_fraction Zero (plus (whole (m 0 0)) (whole (m 1 0))) ≡ m 0 0 +ℤ m 1 0 = rounded-sum Zero (m 0 0) (m 1 0) in
-    let low : value_at_corner wires kind (Arith Add v x y z sh) ((known x.0).lo ∷ (known y.0).lo ∷ []) ≤ℤ (m 0 0 +ℤ m 1 0) = rw (rounded-sum Zero (known x.0).lo (known y.0).lo) (int_le-add _ _ _ _ a.low b.low) in
-    let high : (m 0 0 +ℤ m 1 0) ≤ℤ value_at_corner wires kind (Arith Add v x y z sh) ((known x.0).hi ∷ (known y.0).hi ∷ []) = rw (rounded-sum Zero (known x.0).hi (known y.0).hi) (int_le-add _ _ _ _ a.high b.high) in
-    let hull : IsInHull (corner_values wires kind (Arith Add v x y z sh) known) (m 0 0 +ℤ m 1 0) = hull_holds _ 0 3 _ (omega arith) (omega arith) low high in
-    record {
-      low = rw value hull.low;
-      high = rw value hull.high;
-      near = rw value (sum-near _ _ _ _ _ _ a.near b.near);
-    }
 
 -- ---- conversions
 
@@ -117,10 +88,10 @@ unfolding point_factor
 converts a c = either_converts (nat_le a c) _ _ _ _ (widens (2 ^ (c - a))) (narrows (2 ^ (a - c)) (pow_pos _))
 
 pub convert_is_sound : (wires : List Wire) (kind : Kind) (v : Variant) (x y : WireNo) (known : ℕ → Bounds) (m : ℕ → ℕ → ℤ) (e : ℕ → ℕ → Fraction) → ((p : ℕ) → IsWithin (known (argument_of (Scaled Convert v x y) p)) (m p 0) (e p 0)) → IsWithin (proposed wires kind (OfBlock (Scaled Convert v x y)) known) (rounded_fraction (mode_of (Scaled Convert v x y)) (formula wires kind (Scaled Convert v x y) (as_fractions m) (whole (pos 0)))) (formula wires kind (Scaled Convert v x y) e (whole (pos 0)))
-unfolding proposed formula error_of corner_values
+unfolding proposed scaled_bounds formula corner_values
 convert_is_sound wires kind v x y known m e given =
     let points = points_of wires kind (Scaled Convert v x y) in
     let c = converts points.a points.c in
     let a = given 0 in
-    let hull : IsInHull (corner_values wires kind (Scaled Convert v x y) known) (rounded_fraction Zero (times (whole (m 0 0)) (point_factor points.a points.c))) = hull_holds _ 0 1 _ (omega arith) (omega arith) (c.order _ _ a.low) (c.order _ _ a.high) in
+    let hull : IsInHull (corner_values Convert points (arguments_of (Scaled Convert v x y) known)) (rounded_fraction Zero (times (whole (m 0 0)) (point_factor points.a points.c))) = hull_holds _ 0 1 _ (omega arith) (omega arith) (c.order _ _ a.low) (c.order _ _ a.high) in
     record { low = hull.low; high = hull.high; near = c.near _ _ _ a.near }

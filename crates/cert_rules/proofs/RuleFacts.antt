@@ -1,12 +1,14 @@
 -- What the functions of the rules owe: that a block's arguments have entries, that these are small, and that the
 -- computed bounds are the definition's.
-use Rattle.std.proofs.Common.{◌≡◌, ℕ, ◌<◌, Bool, true, false, cond, List, length, ℤ, pos, ◌+ℤ◌, ◌-ℤ◌, ◌≤ℤ◌, refl, sym, ap, ap₂, ◌∙◌, subst, arith, Some, None, FitsSigned, to_z, of_z, w64}
-use Rattle.std.proofs.lemmas.Int.{to_z-of_z}
+use Rattle.std.proofs.Common.{◌≡◌, ℕ, ◌<◌, Bool, true, false, cond, List, length, ℤ, pos, ◌-ℤ◌, ◌≤ℤ◌, refl, sym, ap, ap₂, ◌∙◌, subst, arith, Option, Some, None, FitsSigned, to_z, of_z, w64}
+use Rattle.std.specs.Prelude.{◌≤◌, ◌^◌, ◌||◌, not, int_le, int_lt}
+use Rattle.std.proofs.lemmas.Bool.{and_from, true≢false}
+use Rattle.fx_fraction.proofs.WholeNumbers.{int_le-false, int_le-true, int_le_trans}
+use Rattle.std.proofs.lemmas.Int.{ints, to_z-of_z}
 use Rattle.fx_core.specs.declared.quotient.Mode.TheVariants.{Zero}
 use Rattle.fx_core.specs.Rounding.{shifted_rounded}
-use Rattle.net_model.specs.declared.first.Variant.{Variant}
-use Rattle.net_model.specs.declared.first.ArithOp.{ArithOp}
-use Rattle.net_model.specs.declared.first.ArithOp.TheVariants.{Add}
+use Rattle.mfx_arith.specs.declared.operation.Variant.{Variant}
+use Rattle.mfx_arith.specs.declared.operation.ArithOp.{ArithOp}
 use Rattle.net_model.specs.declared.first.ScaledOp.{ScaledOp}
 use Rattle.net_model.specs.declared.first.ScaledOp.TheVariants.{Convert}
 use Rattle.net_model.specs.declared.wires.WireNo.{WireNo}
@@ -17,26 +19,47 @@ use Rattle.net_model.specs.declared.wires.Item.{Item}
 use Rattle.net_model.specs.declared.wires.Item.TheVariants.{Input, Const, Block as OfBlock}
 use Rattle.net_model.specs.declared.wires.Role.TheVariants.{Value}
 use Rattle.net_model.specs.declared.wires.Wire.{Wire}
-use Rattle.net_model.specs.Wires.{NetData, wire_at, point_of, argument_of, parts_of}
+use Rattle.net_model.specs.Wires.{NetData, wire_at, kind_least, kind_greatest, point_of, argument_of, parts_of}
 use Rattle.net_model.specs.Validity.{IsValid}
 use Rattle.cert_rules.specs.declared.bounds.Bounds.{Bounds}
 use Rattle.cert_rules.specs.Certificates.{entry_of}
-use Rattle.cert_rules.specs.Rules.{converted_error, is_allowed, may_divide_by_zero, may_fail, proposed, rule_of}
+use Rattle.cert_rules.specs.Rules.{allowed_of, arguments_of, bounds_of, converted_error, if_allowed, is_allowed, may_fail, proposed, rule_of}
+use Rattle.cert_rules.specs.ArithCorners.{three}
+use Rattle.cert_rules.specs.ArithRules.{arith_bounds, arith_may_divide_by_zero}
+use Rattle.cert_rules.specs.ArithSoundness.{has_rule}
 use Rattle.cert_rules.specs.Acceptance.{entry_at}
-use Rattle.cert_rules.specs.Entries.{AreSound, IsSmall}
-use Rattle.cert_rules.proofs.Corners.{sum_of, sum_is, converted_of, converted_is}
-use Rattle.net_model.proofs.ValidityFacts.{argument_of-valid, length-parts_of}
-use Rattle.cert_rules.proofs.EntryFacts.{entry_of-value, small_entry}
+use Rattle.cert_rules.specs.Entries.{AreSound, IsSmall, if_small, is_small}
+use Rattle.cert_rules.proofs.Corners.{converted_of, converted_is}
+use Rattle.cert_rules.proofs.ArithArguments.{bounds_of_three, divisor_of_three, proper_bounds}
+use Rattle.cert_rules.proofs.UnsignedSteps.{unsigned_step}
+use Rattle.cert_rules.proofs.AcceptanceLaws.{ruled_if_built}
+use Rattle.net_model.proofs.BuiltFacts.{shift_from_test}
+use Rattle.net_model.proofs.ValidityFacts.{argument_of-valid, arith-valid, length-parts_of}
+use Rattle.cert_rules.proofs.EntryFacts.{entry_of-value, kind_greatest-high, kind_least-low, small_entry, three_tests}
 
 -- ---- a block's arguments
 
 argument_there : (net : NetData) (i : ℕ) (b : Block) → IsValid net → i < length net.wires → (wire_at net.wires i).item ≡ OfBlock b → (p : ℕ) → argument_of b p < length net.wires
 argument_there net i b valid h is p = omega (arith, argument_of-valid net i b valid h is p)
 
-pub arith_there : (net : NetData) (i : ℕ) (b : Block) (op : ArithOp) (v : Variant) (x y z : WireNo) (sh : ℕ) → IsValid net → i < length net.wires → (wire_at net.wires i).item ≡ OfBlock b → b ≡ Arith op v x y z sh → (x.0 < length net.wires) × (y.0 < length net.wires)
+-- a block of Mfx arithmetic has a rule, a count of places of at most 15, and three wires
+pub record ArithThere (net : NetData) (op : ArithOp) (x y z : WireNo) (sh : ℕ) : Type 0 where
+  pub ruled : has_rule op ≡ true
+  pub places : sh ≤ 15
+  pub first : x.0 < length net.wires
+  pub second : y.0 < length net.wires
+  pub third : z.0 < length net.wires
+
+pub arith_there : (net : NetData) (i : ℕ) (b : Block) (op : ArithOp) (v : Variant) (x y z : WireNo) (sh : ℕ) → IsValid net → i < length net.wires → (wire_at net.wires i).item ≡ OfBlock b → b ≡ Arith op v x y z sh → ArithThere net op x y z sh
 arith_there net i b op v x y z sh valid h is case =
-    let is' : (wire_at net.wires i).item ≡ OfBlock (Arith op v x y z sh) = is ∙ ap OfBlock case in
-    (argument_there net i (Arith op v x y z sh) valid h is' 0, argument_there net i (Arith op v x y z sh) valid h is' 1)
+    let good = arith-valid net i op v x y z sh valid h (is ∙ ap OfBlock case) in
+    record {
+      ruled = ruled_if_built op good.built;
+      places = shift_from_test op sh good.shift;
+      first = omega (arith, good.earlier_x);
+      second = omega (arith, good.earlier_y);
+      third = omega (arith, good.earlier_z);
+    }
 
 pub scaled_there : (net : NetData) (i : ℕ) (b : Block) (op : ScaledOp) (v : Variant) (x y : WireNo) → IsValid net → i < length net.wires → (wire_at net.wires i).item ≡ OfBlock b → b ≡ Scaled op v x y → x.0 < length net.wires
 scaled_there net i b op v x y valid h is case =
@@ -61,57 +84,107 @@ by_fields : (r s : Bounds) → r.lo ≡ s.lo → r.hi ≡ s.hi → r.err ≡ s.e
 by_fields r s p q t =
     ap₂ (λ (l h : ℤ). record { lo = l; hi = h; err = r.err }) p q ∙ ap (λ (e : ℤ). record { lo = s.lo; hi = s.hi; err = e }) t
 
-pub sum_returns : (wires : List Wire) (entries : List Bounds) (kind : Kind) (b : Block) (op : ArithOp) (v : Variant) (x y z : WireNo) (sh : ℕ) (r first second : Bounds) → b ≡ Arith op v x y z sh → x.0 < length wires → y.0 < length wires → first ≡ entry_at entries x.0 → second ≡ entry_at entries y.0 → IsSmall first → IsSmall second → r.lo ≡ first.lo +ℤ second.lo → r.hi ≡ first.hi +ℤ second.hi → r.err ≡ first.err +ℤ second.err → r ≡ proposed wires kind (OfBlock b) (λ k. entry_of wires entries k Value)
-sum_returns wires entries kind b Add v x y z sh r first second case h k e f small small' lo hi err =
-    let e1 : first ≡ entry_of wires entries x.0 Value = same_entry wires entries x.0 first h e in
-    let e2 : second ≡ entry_of wires entries y.0 Value = same_entry wires entries y.0 second k f in
-    by_fields r (sum_of first second) lo hi err ∙ ap₂ sum_of e1 e2 ∙ sym (sum_is wires kind v x y z sh (λ k. entry_of wires entries k Value) (ordered_at _ _ e1 small) (ordered_at _ _ e2 small')) ∙ ap (λ t. proposed wires kind (OfBlock t) (λ k. entry_of wires entries k Value)) (sym case)
+-- bounds that are allowed for a part are small, where their range isn't empty and their error isn't negative
+int_le-test : (a b : ℤ) (t : Bool) → int_le a b ≡ t → a ≤ℤ b → int_le a b ≡ true
+int_le-test a b true e h = e
+int_le-test a b false e h = absurd (omega (arith, ints, h, int_le-false a b e))
 
-pub converted_returns : (wires : List Wire) (entries : List Bounds) (kind : Kind) (b : Block) (op : ScaledOp) (v : Variant) (x y : WireNo) (r first : Bounds) (a c : ℕ) → b ≡ Scaled op v x y → x.0 < length wires → first ≡ entry_at entries x.0 → IsSmall first → a ≡ point_of (wire_at wires x.0).kind → c ≡ point_of kind → r.lo ≡ shifted_rounded Zero first.lo (pos c -ℤ pos a) → r.hi ≡ shifted_rounded Zero first.hi (pos c -ℤ pos a) → r.err ≡ converted_error a c first.err → r ≡ proposed wires kind (OfBlock b) (λ k. entry_of wires entries k Value)
+pub is_small-from : (kind : Kind) (b : Bounds) → b.lo ≤ℤ b.hi → pos 0 ≤ℤ b.err → is_allowed kind Value b ≡ true → is_small b ≡ true
+unfolding is_allowed is_small
+is_small-from kind b ordered positive h =
+    let t = three_tests (int_le (kind_least kind) b.lo) (int_le b.hi (kind_greatest kind)) (int_lt b.err (pos (2 ^ 40))) h in
+    let low = int_le_trans _ _ _ (kind_least-low kind) (int_le-true (kind_least kind) b.lo t.0) in
+    let high = int_le_trans _ _ _ (int_le-true b.hi (kind_greatest kind) t.1) (kind_greatest-high kind) in
+    and_from _ _ (and_from _ _ (and_from _ _ (and_from _ _ (int_le-test _ _ _ refl low) (int_le-test _ _ _ refl ordered)) (int_le-test _ _ _ refl high)) (int_le-test _ _ _ refl positive)) t.2
+
+-- so leaving out the others leaves out nothing that is allowed
+leaves_out : (kind : Kind) (b : Bounds) (small is : Bool) → (is ≡ true → small ≡ true) → is_allowed kind Value b ≡ is → allowed_of kind Value (cond small (Some b) None) ≡ cond (is_allowed kind Value b) (Some b) None
+leaves_out kind b true is h e = refl
+leaves_out kind b false true h e = absurd (true≢false (sym (h refl)))
+leaves_out kind b false false h e = rw e refl
+
+-- of the bounds of an operation that has a rule, by its three arguments
+arith_allowed : (kind : Kind) (ruled divides : Bool) (b : Bounds) → ruled ≡ true → (divides ≡ false → (b.lo ≤ℤ b.hi) × (pos 0 ≤ℤ b.err)) → allowed_of kind Value (cond divides None (if_small b)) ≡ allowed_of kind Value (cond (not ruled || divides) None (Some b))
+arith_allowed kind true true b h proper = refl
+arith_allowed kind true false b h proper =
+    let p = proper refl in
+    leaves_out kind b (is_small b) (is_allowed kind Value b) (is_small-from kind b p.0 p.1) refl
+arith_allowed kind false divides b h proper = absurd (true≢false (sym h))
+
+-- the arguments of a block are small
+small_arguments : (net : NetData) (entries : List Bounds) (i : ℕ) (b : Block) → IsValid net → AreSound net.wires entries → i < length net.wires → (wire_at net.wires i).item ≡ OfBlock b → (p : ℕ) → IsSmall (arguments_of b (λ k. entry_of net.wires entries k Value) p)
+small_arguments net entries i b valid sound h is p =
+    let there = argument_there net i b valid h is p in
+    rw (entry_of-value net.wires entries (argument_of b p) there) (small_entry net.wires entries sound (argument_of b p) there)
+
+pub arith_returns : (net : NetData) (entries : List Bounds) (i : ℕ) (b : Block) (op : ArithOp) (v : Variant) (x y z : WireNo) (sh : ℕ) (r : Option Bounds) (first second third : Bounds) → IsValid net → AreSound net.wires entries → i < length net.wires → (wire_at net.wires i).item ≡ OfBlock b → b ≡ Arith op v x y z sh → first ≡ entry_at entries x.0 → second ≡ entry_at entries y.0 → third ≡ entry_at entries z.0 → r ≡ cond (arith_may_divide_by_zero op (three first second third)) None (if_small (arith_bounds op sh (three first second third))) → allowed_of (wire_at net.wires i).kind Value r ≡ allowed_of (wire_at net.wires i).kind Value (bounds_of net.wires (wire_at net.wires i).kind (OfBlock b) (λ k. entry_of net.wires entries k Value))
+unfolding proposed
+arith_returns net entries i b op v x y z sh r first second third valid sound h here case e f g is =
+    let kind = (wire_at net.wires i).kind in
+    let known : ℕ → Bounds = λ k. entry_of net.wires entries k Value in
+    let given : ℕ → Bounds = arguments_of (Arith op v x y z sh) known in
+    let there = arith_there net i b op v x y z sh valid h here case in
+    let here' : (wire_at net.wires i).item ≡ OfBlock (Arith op v x y z sh) = here ∙ ap OfBlock case in
+    let e1 : first ≡ given 0 = same_entry net.wires entries x.0 first there.first e in
+    let e2 : second ≡ given 1 = same_entry net.wires entries y.0 second there.second f in
+    let e3 : third ≡ given 2 = same_entry net.wires entries z.0 third there.third g in
+    let divisor : arith_may_divide_by_zero op (three first second third) ≡ arith_may_divide_by_zero op given = rw (e1, e2, e3) (divisor_of_three op given) in
+    let bounds : arith_bounds op sh (three first second third) ≡ arith_bounds op sh given = rw (e1, e2, e3) (bounds_of_three op sh given) in
+    ap (allowed_of kind Value) (is ∙ ap₂ (λ t n. cond t None (if_small n)) divisor bounds)
+    ∙ arith_allowed kind (has_rule op) (arith_may_divide_by_zero op given) (arith_bounds op sh given) there.ruled (λ away. proper_bounds op sh given there.ruled away (unsigned_step net entries i (OfBlock (Arith op v x y z sh)) valid sound h here') (small_arguments net entries i (Arith op v x y z sh) valid sound h here'))
+    ∙ ap (λ t. allowed_of kind Value (bounds_of net.wires kind (OfBlock t) known)) (sym case)
+
+pub converted_returns : (wires : List Wire) (entries : List Bounds) (kind : Kind) (b : Block) (op : ScaledOp) (v : Variant) (x y : WireNo) (r first : Bounds) (a c : ℕ) → b ≡ Scaled op v x y → x.0 < length wires → first ≡ entry_at entries x.0 → IsSmall first → a ≡ point_of (wire_at wires x.0).kind → c ≡ point_of kind → r.lo ≡ shifted_rounded Zero first.lo (pos c -ℤ pos a) → r.hi ≡ shifted_rounded Zero first.hi (pos c -ℤ pos a) → r.err ≡ converted_error a c first.err → allowed_of kind Value (Some r) ≡ allowed_of kind Value (bounds_of wires kind (OfBlock b) (λ k. entry_of wires entries k Value))
 converted_returns wires entries kind b Convert v x y r first a c case h e small old new lo hi err =
     let e1 : first ≡ entry_of wires entries x.0 Value = same_entry wires entries x.0 first h e in
-    by_fields r (converted_of a c first) lo hi err ∙ ap₂ (λ m n. converted_of m n first) old new ∙ ap (converted_of (point_of (wire_at wires x.0).kind) (point_of kind)) e1 ∙ sym (converted_is wires kind v x y (λ k. entry_of wires entries k Value) (ordered_at _ _ e1 small)) ∙ ap (λ t. proposed wires kind (OfBlock t) (λ k. entry_of wires entries k Value)) (sym case)
+    ap (λ n. allowed_of kind Value (Some n)) (by_fields r (converted_of a c first) lo hi err ∙ ap₂ (λ m n. converted_of m n first) old new ∙ ap (converted_of (point_of (wire_at wires x.0).kind) (point_of kind)) e1 ∙ sym (converted_is wires kind v x y (λ k. entry_of wires entries k Value) (ordered_at _ _ e1 small)))
+    ∙ ap (λ t. allowed_of kind Value (bounds_of wires kind (OfBlock t) (λ k. entry_of wires entries k Value))) (sym case)
 
 -- ---- the bounds of what isn't a block
 
 abbrev pub range_read : ℤ → ℤ → Bounds
 range_read lo hi = record { lo = to_z w64 (of_z w64 lo); hi = to_z w64 (of_z w64 hi); err = pos 0 }
 
-pub input_returns : (wires : List Wire) (kind : Kind) (item read : Item) (known : ℕ → Bounds) (lo hi : ℤ) → FitsSigned w64 lo → FitsSigned w64 hi → read ≡ item → read ≡ Input lo hi → range_read lo hi ≡ proposed wires kind item known
+pub input_returns : (wires : List Wire) (kind : Kind) (item read : Item) (known : ℕ → Bounds) (lo hi : ℤ) → FitsSigned w64 lo → FitsSigned w64 hi → read ≡ item → read ≡ Input lo hi → allowed_of kind Value (Some (range_read lo hi)) ≡ allowed_of kind Value (bounds_of wires kind item known)
 unfolding proposed
 input_returns wires kind item read known lo hi f g same case =
     let is : item ≡ Input lo hi = sym same ∙ case in
     rw (is, to_z-of_z w64 lo f, to_z-of_z w64 hi g) refl
 
-pub constant_returns : (wires : List Wire) (kind : Kind) (item read : Item) (known : ℕ → Bounds) (value : ℤ) → FitsSigned w64 value → read ≡ item → read ≡ Const value → range_read value value ≡ proposed wires kind item known
+pub constant_returns : (wires : List Wire) (kind : Kind) (item read : Item) (known : ℕ → Bounds) (value : ℤ) → FitsSigned w64 value → read ≡ item → read ≡ Const value → allowed_of kind Value (Some (range_read value value)) ≡ allowed_of kind Value (bounds_of wires kind item known)
 unfolding proposed
 constant_returns wires kind item read known value f same case =
     let is : item ≡ Const value = sym same ∙ case in
     rw (is, to_z-of_z w64 value f) refl
 
+-- the item that was read is a block
+pub block_returns : (wires : List Wire) (kind : Kind) (item read : Item) (b : Block) (known : ℕ → Bounds) (found : Option Bounds) → read ≡ item → read ≡ OfBlock b → allowed_of kind Value found ≡ allowed_of kind Value (bounds_of wires kind (OfBlock b) known) → allowed_of kind Value found ≡ allowed_of kind Value (bounds_of wires kind item known)
+block_returns wires kind item read b known found same case h =
+    h ∙ ap (λ t. allowed_of kind Value (bounds_of wires kind t known)) (sym case ∙ same)
+
 -- ---- the rule of a wire's value
 
-no_block_fails : (b : Block) (known : ℕ → Bounds) → may_divide_by_zero b known ≡ false
-no_block_fails (Arith op v x y z sh) known = refl
-no_block_fails (Scaled op v x y) known = refl
+-- of what was found the same is allowed as of the wire's bounds
+abbrev IsFound : List Wire → List Bounds → ℕ → Option Bounds → Type 0
+IsFound wires entries i found = allowed_of (wire_at wires i).kind Value found ≡ allowed_of (wire_at wires i).kind Value (bounds_of wires (wire_at wires i).kind (wire_at wires i).item (λ k. entry_of wires entries k Value))
 
-no_item_fails : (item : Item) (known : ℕ → Bounds) → may_fail item known ≡ false
-no_item_fails (Input lo hi) known = refl
-no_item_fails (Const value) known = refl
-no_item_fails (OfBlock b) known = no_block_fails b known
+-- it is what the bounds are, where they are allowed
+rule_is : (fails : Bool) (kind : Kind) (b : Bounds) → allowed_of kind Value (cond fails None (Some b)) ≡ cond fails None (if_allowed kind Value b)
+rule_is true kind b = refl
+rule_is false kind b = refl
 
-chosen : (fails fits : Bool) (b : Bounds) → fails ≡ false → cond fails None (cond fits (Some b) None) ≡ cond fits (Some b) None
-chosen fails fits b e = ap (λ t. cond t None (cond fits (Some b) None)) e
-
-allowed_or_none : (wires : List Wire) (entries : List Bounds) (i : ℕ) (b : Bounds) (t : Bool) → b ≡ proposed wires (wire_at wires i).kind (wire_at wires i).item (λ k. entry_of wires entries k Value) → t ≡ is_allowed (wire_at wires i).kind Value b → cond t (Some b) None ≡ rule_of wires i Value (entry_of wires entries)
+rule_of-bounds : (wires : List Wire) (entries : List Bounds) (i : ℕ) (found : Option Bounds) → IsFound wires entries i found → allowed_of (wire_at wires i).kind Value found ≡ rule_of wires i Value (entry_of wires entries)
 unfolding rule_of
-allowed_or_none wires entries i b t e f =
-    ap (λ u. cond u (Some b) None) f ∙ ap (λ (p : Bounds). cond (is_allowed (wire_at wires i).kind Value p) (Some p) None) e ∙ sym (chosen _ _ _ (no_item_fails (wire_at wires i).item (λ k. entry_of wires entries k Value)))
+rule_of-bounds wires entries i found e =
+    e ∙ rule_is (may_fail (wire_at wires i).item (λ k. entry_of wires entries k Value)) (wire_at wires i).kind (proposed wires (wire_at wires i).kind (wire_at wires i).item (λ k. entry_of wires entries k Value))
 
-pub rule_allowed : (wires : List Wire) (entries : List Bounds) (i : ℕ) (kind : Kind) (b : Bounds) (t : Bool) → b ≡ proposed wires (wire_at wires i).kind (wire_at wires i).item (λ k. entry_of wires entries k Value) → kind ≡ (wire_at wires i).kind → t ≡ is_allowed kind Value b → t ≡ true → Some b ≡ rule_of wires i Value (entry_of wires entries)
-rule_allowed wires entries i kind b t e k f passed =
-    ap (λ u. cond u (Some b) None) (sym passed) ∙ allowed_or_none wires entries i b t e (f ∙ ap (λ n. is_allowed n Value b) k)
+pub rule_allowed : (wires : List Wire) (entries : List Bounds) (i : ℕ) (kind : Kind) (found : Option Bounds) (b : Bounds) (t : Bool) → IsFound wires entries i found → found ≡ Some b → kind ≡ (wire_at wires i).kind → t ≡ is_allowed kind Value b → t ≡ true → Some b ≡ rule_of wires i Value (entry_of wires entries)
+rule_allowed wires entries i kind found b t e is k f passed =
+    ap (λ u. cond u (Some b) None) (sym passed ∙ f ∙ ap (λ n. is_allowed n Value b) k) ∙ ap (allowed_of (wire_at wires i).kind Value) (sym is) ∙ rule_of-bounds wires entries i found e
 
-pub rule_none : (wires : List Wire) (entries : List Bounds) (i : ℕ) (kind : Kind) (b : Bounds) (t : Bool) → b ≡ proposed wires (wire_at wires i).kind (wire_at wires i).item (λ k. entry_of wires entries k Value) → kind ≡ (wire_at wires i).kind → t ≡ is_allowed kind Value b → t ≡ false → None ≡ rule_of wires i Value (entry_of wires entries)
-rule_none wires entries i kind b t e k f failed =
-    ap (λ u. cond u (Some b) None) (sym failed) ∙ allowed_or_none wires entries i b t e (f ∙ ap (λ n. is_allowed n Value b) k)
+pub rule_none : (wires : List Wire) (entries : List Bounds) (i : ℕ) (kind : Kind) (found : Option Bounds) (b : Bounds) (t : Bool) → IsFound wires entries i found → found ≡ Some b → kind ≡ (wire_at wires i).kind → t ≡ is_allowed kind Value b → t ≡ false → None ≡ rule_of wires i Value (entry_of wires entries)
+rule_none wires entries i kind found b t e is k f failed =
+    ap (λ u. cond u (Some b) None) (sym failed ∙ f ∙ ap (λ n. is_allowed n Value b) k) ∙ ap (allowed_of (wire_at wires i).kind Value) (sym is) ∙ rule_of-bounds wires entries i found e
+
+pub rule_lacking : (wires : List Wire) (entries : List Bounds) (i : ℕ) (found : Option Bounds) → IsFound wires entries i found → found ≡ None → None ≡ rule_of wires i Value (entry_of wires entries)
+rule_lacking wires entries i found e is = ap (allowed_of (wire_at wires i).kind Value) (sym is) ∙ rule_of-bounds wires entries i found e

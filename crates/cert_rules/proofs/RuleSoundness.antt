@@ -1,13 +1,18 @@
 -- The rule of each wire is sound: what its equation makes is within the bounds that its rule proposes, and saturation
 -- leaves it alone where these lie between the ends of its kind.
-use Rattle.std.specs.Prelude.{◌≡◌, ℕ, List, [], get_or, ℤ, pos, ◌≤ℤ◌}
-use Rattle.std.proofs.Common.{refl}
-use Rattle.fx_fraction.specs.Fraction.{Fraction, whole, over, distance, AtMost, Same}
+use Rattle.std.specs.Prelude.{◌≡◌, ℕ, Bool, true, false, not, ◌||◌, List, [], get_or, ℤ, pos, ◌≤ℤ◌, Option, Some, None, IfSome}
+use Rattle.std.proofs.Common.{refl, true≢false}
+use Rattle.fx_fraction.specs.Fraction.{Fraction, whole, over, distance, is_zero, AtMost, Same}
 use Rattle.fx_fraction.proofs.Order.{AtMost_trans, AtMost_of-Same}
 use Rattle.fx_fraction.proofs.Distances.{distance_self}
 use Rattle.fx_fraction.proofs.WholeNumbers.{int_le_refl}
+use Rattle.fx_core.specs.declared.quotient.Mode.TheVariants.{Zero}
+use Rattle.fx_core.specs.Values.{rounded_fraction, unsaturated}
 use Rattle.fx_core.proofs.TypeLaws.{saturated_to-between}
-use Rattle.net_model.specs.declared.first.ArithOp.TheVariants.{Add}
+use Rattle.mfx_arith.specs.declared.operation.ArithOp.{ArithOp}
+use Rattle.mfx_arith.specs.declared.operation.Variant.{Variant}
+use Rattle.mfx_arith.specs.Formulas.{arith_formula, quotient_of as arith_quotient}
+use Rattle.net_model.specs.declared.wires.WireNo.{WireNo}
 use Rattle.net_model.specs.declared.first.ScaledOp.TheVariants.{Convert}
 use Rattle.net_model.specs.declared.wires.Kind.{Kind}
 use Rattle.net_model.specs.declared.wires.Block.{Block}
@@ -17,13 +22,16 @@ use Rattle.net_model.specs.declared.wires.Item.TheVariants.{Input, Const, Block 
 use Rattle.net_model.specs.declared.wires.Wire.{Wire}
 use Rattle.net_model.specs.Wires.{wire_at, argument_of, input_place, kind_least, kind_greatest}
 use Rattle.net_meaning.specs.Cells.{Cell, plain}
-use Rattle.net_meaning.specs.Blocks.{state_formula, quotient_of, machine, machine_state_of, machine_value_of, exact, exact_cell, state_least, state_greatest}
+use Rattle.net_meaning.specs.Blocks.{formula, state_formula, quotient_of, machine, machine_state_of, machine_value_of, exact, exact_cell, state_least, state_greatest}
 use Rattle.net_meaning.specs.Runs.{equation_of}
 use Rattle.net_meaning.specs.Promises.{KeepsRange}
 use Rattle.cert_rules.specs.declared.bounds.Bounds.{Bounds}
 use Rattle.cert_rules.specs.Certificates.{IsWithin}
-use Rattle.cert_rules.specs.Rules.{proposed}
-use Rattle.cert_rules.proofs.Routines.{add_is_sound, convert_is_sound}
+use Rattle.cert_rules.specs.ArithRules.{arith_bounds, arith_may_divide_by_zero}
+use Rattle.cert_rules.specs.ArithSoundness.{HasUnsignedStep, KeepsRule, has_rule}
+use Rattle.cert_rules.specs.Rules.{arguments_of, proposed, block_may_fail, may_fail}
+use Rattle.cert_rules.proofs.ArithSoundnessProof.{arith_rules_are_sound}
+use Rattle.cert_rules.proofs.Routines.{convert_is_sound}
 
 -- what is sound about a cell of the machine, the exact cell and the bounds of the value
 pub record IsSound (kind : Kind) (b : Bounds) (cell : Cell ℤ) (exactly : Cell Fraction) : Type 0 where
@@ -50,17 +58,45 @@ plain_is_sound kind lo hi v p q = record {
   state_high = record { le = tt };
 }
 
+-- ---- blocks of Mfx arithmetic
+
+neither_fails : (ruled divides : Bool) → (not ruled || divides) ≡ false → (ruled ≡ true) × (divides ≡ false)
+neither_fails true true h = absurd (true≢false h)
+neither_fails true false h = (refl, refl)
+neither_fails false divides h = absurd (true≢false h)
+
+-- an operation keeps its rule where its block gets bounds
+pub arith_keeps : (op : ArithOp) (v : Variant) (x y z : WireNo) (sh : ℕ) (known : ℕ → Bounds) (m : ℕ → ℤ) (e : ℕ → Fraction) → block_may_fail (Arith op v x y z sh) known ≡ false → HasUnsignedStep op (arguments_of (Arith op v x y z sh) known) → ((p : ℕ) → IsWithin (known (argument_of (Arith op v x y z sh) p)) (m p) (e p)) → KeepsRule op sh (arguments_of (Arith op v x y z sh) known) m e
+arith_keeps op v x y z sh known m e ruled step given =
+    let both = neither_fails (has_rule op) (arith_may_divide_by_zero op (arguments_of (Arith op v x y z sh) known)) ruled in
+    arith_rules_are_sound op both.0 sh (arguments_of (Arith op v x y z sh) known) m e both.1 step (λ p _. given p)
+
+-- where no divisor is 0 the value before saturation is the formula rounded
+not_by_zero : (least greatest : ℤ) (q : Option (Fraction × Fraction)) (f : Fraction) → IfSome q (λ q. is_zero q.1 ≡ false) → unsaturated Zero least greatest q f ≡ rounded_fraction Zero f
+not_by_zero least greatest None f h = refl
+not_by_zero least greatest (Some q) f h = rw h refl
+
+within_at : (b : Bounds) (v w : ℤ) (e : Fraction) → v ≡ w → IsWithin b w e → IsWithin b v e
+within_at b v w e same h = rw same h
+
 -- ---- blocks
 
-pub block_is_sound : (wires : List Wire) (kind : Kind) (b : Block) (known : ℕ → Bounds) (m : ℕ → ℕ → ℤ) (e : ℕ → ℕ → Fraction) (before : Cell ℤ) (past : Cell Fraction) → ((p : ℕ) → IsWithin (known (argument_of b p)) (m p 0) (e p 0)) → IsSound kind (proposed wires kind (OfBlock b) known) (machine.of_block wires kind b m before) (exact.of_block wires kind b e past)
-unfolding machine exact machine_state_of machine_value_of exact_cell state_formula quotient_of
-block_is_sound wires kind (Arith Add v x y z sh) known m e before past given = record {
-  value = add_is_sound wires kind v x y z sh known m e given;
-  kept = saturated_to-between _ _ _;
-  state_low = record { le = tt };
-  state_high = record { le = tt };
-}
-block_is_sound wires kind (Scaled Convert v x y) known m e before past given = record {
+-- the step of a rate limiter isn't below 0
+abbrev pub BlockHasUnsignedStep : Block → (ℕ → Bounds) → Type 0
+BlockHasUnsignedStep (Arith op v x y z sh) known = HasUnsignedStep op (arguments_of (Arith op v x y z sh) known)
+BlockHasUnsignedStep (Scaled op v x y) known = Unit {0}
+
+pub block_is_sound : (wires : List Wire) (kind : Kind) (b : Block) (known : ℕ → Bounds) (m : ℕ → ℕ → ℤ) (e : ℕ → ℕ → Fraction) (before : Cell ℤ) (past : Cell Fraction) → block_may_fail b known ≡ false → BlockHasUnsignedStep b known → ((p : ℕ) → IsWithin (known (argument_of b p)) (m p 0) (e p 0)) → IsSound kind (proposed wires kind (OfBlock b) known) (machine.of_block wires kind b m before) (exact.of_block wires kind b e past)
+unfolding machine exact machine_state_of machine_value_of exact_cell state_formula quotient_of formula proposed
+block_is_sound wires kind (Arith op v x y z sh) known m e before past ruled step given =
+    let keeps = arith_keeps op v x y z sh known (λ p. m p 0) (λ p. e p 0) ruled step given in
+    record {
+      value = within_at (arith_bounds op sh (arguments_of (Arith op v x y z sh) known)) _ _ _ (not_by_zero (kind_least kind) (kind_greatest kind) (arith_quotient op sh (λ p. whole (m p 0))) (arith_formula op sh (λ p. whole (m p 0))) keeps.machine_divides) keeps.within;
+      kept = saturated_to-between _ _ _;
+      state_low = record { le = tt };
+      state_high = record { le = tt };
+    }
+block_is_sound wires kind (Scaled Convert v x y) known m e before past ruled step given = record {
   value = convert_is_sound wires kind v x y known m e given;
   kept = saturated_to-between _ _ _;
   state_low = record { le = tt };
@@ -75,8 +111,14 @@ ArgumentsWithin (Input lo hi) known m e = Unit {0}
 ArgumentsWithin (Const value) known m e = Unit {0}
 ArgumentsWithin (OfBlock b) known m e = (p : ℕ) → IsWithin (known (argument_of b p)) (m 0 (argument_of b p)).value (e 0 (argument_of b p)).value
 
-pub rule_is_sound : (wires : List Wire) (rows : List (List ℤ)) (i : ℕ) (item : Item) (known : ℕ → Bounds) (m : ℕ → ℕ → Cell ℤ) (e : ℕ → ℕ → Cell Fraction) → KeepsRange item (get_or (get_or rows 0 []) (input_place wires i) (pos 0)) → ArgumentsWithin item known m e → IsSound (wire_at wires i).kind (proposed wires (wire_at wires i).kind item known) (equation_of machine wires rows m i item) (equation_of exact wires rows e i item)
+-- the step of a rate limiter isn't below 0
+abbrev pub ItemHasUnsignedStep : Item → (ℕ → Bounds) → Type 0
+ItemHasUnsignedStep (Input lo hi) known = Unit {0}
+ItemHasUnsignedStep (Const value) known = Unit {0}
+ItemHasUnsignedStep (OfBlock b) known = BlockHasUnsignedStep b known
+
+pub rule_is_sound : (wires : List Wire) (rows : List (List ℤ)) (i : ℕ) (item : Item) (known : ℕ → Bounds) (m : ℕ → ℕ → Cell ℤ) (e : ℕ → ℕ → Cell Fraction) → KeepsRange item (get_or (get_or rows 0 []) (input_place wires i) (pos 0)) → may_fail item known ≡ false → ItemHasUnsignedStep item known → ArgumentsWithin item known m e → IsSound (wire_at wires i).kind (proposed wires (wire_at wires i).kind item known) (equation_of machine wires rows m i item) (equation_of exact wires rows e i item)
 unfolding equation_of proposed
-rule_is_sound wires rows i (Input lo hi) known m e keeps given = plain_is_sound _ lo hi _ keeps.0 keeps.1
-rule_is_sound wires rows i (Const value) known m e keeps given = plain_is_sound _ value value value (int_le_refl value) (int_le_refl value)
-rule_is_sound wires rows i (OfBlock b) known m e keeps given = block_is_sound wires (wire_at wires i).kind b known _ _ _ _ given
+rule_is_sound wires rows i (Input lo hi) known m e keeps ruled step given = plain_is_sound _ lo hi _ keeps.0 keeps.1
+rule_is_sound wires rows i (Const value) known m e keeps ruled step given = plain_is_sound _ value value value (int_le_refl value) (int_le_refl value)
+rule_is_sound wires rows i (OfBlock b) known m e keeps ruled step given = block_is_sound wires (wire_at wires i).kind b known _ _ _ _ ruled step given

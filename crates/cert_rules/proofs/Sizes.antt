@@ -9,7 +9,8 @@ use Rattle.fx_core.specs.declared.quotient.Mode.TheVariants.{Zero}
 use Rattle.fx_core.specs.Rounding.{rounded, power, shifted_rounded, least_quotient_above, IsLeastQuotientAbove}
 use Rattle.fx_core.proofs.Integers.{less_of_products, le_of_products}
 use Rattle.fx_core.proofs.RoundingLaws.{least_quotient_above_bounds}
-use Rattle.cert_rules.specs.Rules.{converted_error, one_count}
+use Rattle.cert_rules.specs.Units.{one_count}
+use Rattle.cert_rules.specs.Rules.{converted_error}
 use Rattle.cert_rules.proofs.Corners.{shift_left}
 
 -- ---- a shift by at most 15 digits

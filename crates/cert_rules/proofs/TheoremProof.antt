@@ -1,7 +1,7 @@
 -- An accepted certificate holds. Each row stands for itself, since no built block reads an earlier one; within a row
 -- each wire follows from the wires before it, and nothing here names a block's routine.
 use Rattle.std.specs.Prelude.{◌≡◌, ℕ, suc, ◌+◌, ◌<◌, false, List, [], length, get_or, drop, ℤ, pos}
-use Rattle.std.proofs.Common.{sym, ap, ◌∙◌, subst, arith}
+use Rattle.std.proofs.Common.{refl, sym, ap, ◌∙◌, subst, arith}
 use Rattle.std.proofs.lemmas.List.{get_or-drop}
 use Rattle.fx_fraction.specs.Fraction.{Fraction}
 use Rattle.fx_fraction.proofs.WholeNumbers.{int_le_trans}
@@ -24,18 +24,22 @@ use Rattle.cert_rules.specs.Certificates.{IsWithin, entry_of, held_by}
 use Rattle.cert_rules.specs.Rules.{may_fail}
 use Rattle.cert_rules.specs.Acceptance.{Accepts}
 use Rattle.cert_rules.specs.Theorem.{CertificatesHold}
-use Rattle.cert_rules.proofs.RuleSoundness.{IsSound, ArgumentsWithin, rule_is_sound}
+use Rattle.cert_rules.proofs.RuleSoundness.{IsSound, ArgumentsWithin, ItemHasUnsignedStep, arith_keeps, rule_is_sound}
+use Rattle.cert_rules.proofs.UnsignedSteps.{unsigned_step}
 use Rattle.cert_rules.proofs.AcceptedEntries.{within_wider, proposal, EntryHolds, entry_holds}
 
 -- ---- one wire
 
--- where the rule of a wire doesn't fail, no divisor is 0
-divides_well : (wires : List Wire) (w : Wire) (item : Item) (known : ℕ → Bounds) (m : ℕ → ℕ → Cell ℤ) (e : ℕ → ℕ → Cell Fraction) → may_fail item known ≡ false → ArgumentsWithin item known m e → DividesWell wires w item m e
+-- where a wire's value gets bounds, no divisor is 0
+divides_well : (wires : List Wire) (w : Wire) (item : Item) (known : ℕ → Bounds) (m : ℕ → ℕ → Cell ℤ) (e : ℕ → ℕ → Cell Fraction) → may_fail item known ≡ false → ItemHasUnsignedStep item known → ArgumentsWithin item known m e → DividesWell wires w item m e
 unfolding quotient_of
-divides_well wires w (Input lo hi) known m e h given = tt
-divides_well wires w (Const value) known m e h given = tt
-divides_well wires w (OfBlock (Arith op v x y z sh)) known m e h given = (tt, tt)
-divides_well wires w (OfBlock (Scaled op v x y)) known m e h given = (tt, tt)
+divides_well wires w (Input lo hi) known m e h step given = tt
+divides_well wires w (Const value) known m e h step given = tt
+divides_well wires w (OfBlock (Arith op v x y z sh)) known m e h step given =
+    let b = Arith op v x y z sh in
+    let keeps = arith_keeps op v x y z sh known (λ p. (m 0 (argument_of b p)).value) (λ p. (e 0 (argument_of b p)).value) h step given in
+    (keeps.machine_divides, keeps.exact_divides)
+divides_well wires w (OfBlock (Scaled op v x y)) known m e h step given = (tt, tt)
 
 -- the value of wire k is within its entry
 abbrev IsHeld : List Wire → List Bounds → (ℕ → ℕ → Cell ℤ) → (ℕ → ℕ → Cell Fraction) → ℕ → Type 0
@@ -53,18 +57,18 @@ record WireHolds (wires : List Wire) (entries : List Bounds) (i : ℕ) (m : ℕ 
 within_at : (b : Bounds) (v w : ℤ) (e : Fraction) → v ≡ w → IsWithin b w e → IsWithin b v e
 within_at b v w e same h = rw same h
 
-wire_holds : (wires : List Wire) (entries : List Bounds) (rows : List (List ℤ)) (i : ℕ) (m : ℕ → ℕ → Cell ℤ) (e : ℕ → ℕ → Cell Fraction) → EntryHolds wires entries i → ArgumentsEarlier i (wire_at wires i).item → KeepsRange (wire_at wires i).item (get_or (get_or rows 0 []) (input_place wires i) (pos 0)) → m 0 i ≡ equation machine wires rows m i → e 0 i ≡ equation exact wires rows e i → ((k : ℕ) → k < i → IsHeld wires entries m e k) → WireHolds wires entries i m e
-wire_holds wires entries rows i m e entry earlier keeps p q held =
+wire_holds : (wires : List Wire) (entries : List Bounds) (rows : List (List ℤ)) (i : ℕ) (m : ℕ → ℕ → Cell ℤ) (e : ℕ → ℕ → Cell Fraction) → EntryHolds wires entries i → ItemHasUnsignedStep (wire_at wires i).item (λ w. entry_of wires entries w Value) → ArgumentsEarlier i (wire_at wires i).item → KeepsRange (wire_at wires i).item (get_or (get_or rows 0 []) (input_place wires i) (pos 0)) → m 0 i ≡ equation machine wires rows m i → e 0 i ≡ equation exact wires rows e i → ((k : ℕ) → k < i → IsHeld wires entries m e k) → WireHolds wires entries i m e
+wire_holds wires entries rows i m e entry step earlier keeps p q held =
     let kind = (wire_at wires i).kind in
     let bounds = proposal wires entries i in
     let given = arguments_within wires entries i (wire_at wires i).item m e earlier held in
-    let raw = rule_is_sound wires rows i (wire_at wires i).item (λ w. entry_of wires entries w Value) m e keeps given in
+    let raw = rule_is_sound wires rows i (wire_at wires i).item (λ w. entry_of wires entries w Value) m e keeps entry.ruled step given in
     let sound : IsSound kind bounds (m 0 i) (e 0 i) = subst (λ c. IsSound kind bounds c (e 0 i)) (sym p) (subst (IsSound kind bounds (equation machine wires rows m i)) (sym q) raw) in
     let low = int_le_trans _ _ _ entry.least sound.value.low in
     let high = int_le_trans _ _ _ sound.value.high entry.greatest in
     record {
       fits = record {
-        divisor = divides_well wires (wire_at wires i) (wire_at wires i).item (λ w. entry_of wires entries w Value) m e entry.divides given;
+        divisor = divides_well wires (wire_at wires i) (wire_at wires i).item (λ w. entry_of wires entries w Value) m e entry.ruled step given;
         value_low = low;
         value_high = high;
         state_low = sound.state_low;
@@ -75,8 +79,8 @@ wire_holds wires entries rows i m e entry earlier keeps p q held =
 
 -- ---- one row
 
-row_holds : (wires : List Wire) (entries : List Bounds) (rows : List (List ℤ)) (m : ℕ → ℕ → Cell ℤ) (e : ℕ → ℕ → Cell Fraction) → ((i : ℕ) → i < length wires → EntryHolds wires entries i) → IsOrdered wires → ((i : ℕ) → i < length wires → KeepsRange (wire_at wires i).item (get_or (get_or rows 0 []) (input_place wires i) (pos 0))) → ((i : ℕ) → i < length wires → m 0 i ≡ equation machine wires rows m i) → ((i : ℕ) → i < length wires → e 0 i ≡ equation exact wires rows e i) → (i : ℕ) → i < length wires → WireHolds wires entries i m e
-row_holds wires entries rows m e entry ordered keeps p q i h = by_smaller (λ n. n < length wires → WireHolds wires entries n m e) (λ n before l. wire_holds wires entries rows n m e (entry n l) (ordered n l) (keeps n l) (p n l) (q n l) (λ k less. (before k less (omega arith)).held)) (suc i) i (omega arith) h
+row_holds : (wires : List Wire) (entries : List Bounds) (rows : List (List ℤ)) (m : ℕ → ℕ → Cell ℤ) (e : ℕ → ℕ → Cell Fraction) → ((i : ℕ) → i < length wires → EntryHolds wires entries i) → ((i : ℕ) → i < length wires → ItemHasUnsignedStep (wire_at wires i).item (λ w. entry_of wires entries w Value)) → IsOrdered wires → ((i : ℕ) → i < length wires → KeepsRange (wire_at wires i).item (get_or (get_or rows 0 []) (input_place wires i) (pos 0))) → ((i : ℕ) → i < length wires → m 0 i ≡ equation machine wires rows m i) → ((i : ℕ) → i < length wires → e 0 i ≡ equation exact wires rows e i) → (i : ℕ) → i < length wires → WireHolds wires entries i m e
+row_holds wires entries rows m e entry step ordered keeps p q i h = by_smaller (λ n. n < length wires → WireHolds wires entries n m e) (λ n before l. wire_holds wires entries rows n m e (entry n l) (step n l) (ordered n l) (keeps n l) (p n l) (q n l) (λ k less. (before k less (omega arith)).held)) (suc i) i (omega arith) h
 
 -- ---- all rows
 
@@ -97,6 +101,7 @@ rows_hold : (net : NetData) (entries : List Bounds) → IsValid net → Accepts 
 rows_hold net entries valid accepts rows m e keeps run run' j i h l =
     row_holds net.wires entries (drop j rows) (from_row machine m j) (from_row exact e j)
     (λ n k. entry_holds net.wires entries n accepts k)
+    (λ n k. unsigned_step net entries n (wire_at net.wires n).item valid accepts.sound k refl)
     (arguments_earlier net valid)
     (λ n k. subst (λ row. KeepsRange (wire_at net.wires n).item (get_or row (input_place net.wires n) (pos 0))) (sym (newest_row rows j)) ((keeps j h).ranges n k))
     (λ n k. meets_at machine net.wires rows m run j n h k)

@@ -1,5 +1,6 @@
 -- When a certificate is accepted, and which part fails first where it isn't.
 use Rattle.std.specs.Prelude.{◌≡◌, ℕ, zero, suc, ◌<◌, Bool, true, false, ◌&&◌, List, length, get_or, ℤ, pos, int_le, IsTrue, Option, Some, None, if◌then◌else◌}
+use Rattle.mfx_arith.specs.declared.operation.ArithOp.TheVariants.{Mod}
 use Rattle.net_model.specs.declared.wires.Item.{Item}
 use Rattle.net_model.specs.declared.wires.Item.TheVariants.{Input, Const, Block as OfBlock}
 use Rattle.net_model.specs.declared.wires.Block.{Block}
@@ -13,9 +14,10 @@ use Rattle.cert_rules.specs.declared.bounds.Bounds.{Bounds}
 use Rattle.cert_rules.specs.Certificates.{no_bounds, entry_of}
 use Rattle.cert_rules.specs.Rules.{is_allowed, rule_of}
 
--- a block is smooth: it doesn't switch, look up, or take a remainder or bits; no built block does
+-- a block is smooth: it doesn't switch, look up, or take a remainder or bits
 abbrev pub is_smooth_block : Block → Bool
-is_smooth_block (Arith op v x y z sh) = true
+is_smooth_block (Arith Mod v x y z sh) = false
+is_smooth_block (Arith other v x y z sh) = true
 is_smooth_block (Scaled op v x y) = true
 
 abbrev pub is_smooth : Item → Bool

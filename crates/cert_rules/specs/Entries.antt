@@ -1,5 +1,5 @@
 -- What is known of entries that are sound: that each is, and how small one is.
-use Rattle.std.specs.Prelude.{ℕ, ◌<◌, ◌^◌, List, length, pos, negsuc, ◌≤ℤ◌, ◌<ℤ◌, IsTrue}
+use Rattle.std.specs.Prelude.{ℕ, ◌<◌, ◌^◌, Bool, ◌&&◌, List, length, pos, negsuc, ◌≤ℤ◌, ◌<ℤ◌, int_le, int_lt, IsTrue, Option, Some, None, if◌then◌else◌}
 use Rattle.net_model.specs.declared.wires.Wire.{Wire}
 use Rattle.net_model.specs.Wires.{parts_of}
 use Rattle.cert_rules.specs.declared.bounds.Bounds.{Bounds}
@@ -17,3 +17,11 @@ pub record IsSmall (b : Bounds) : Type 0 where
   pub high : b.hi ≤ℤ pos 4294967295
   pub positive : pos 0 ≤ℤ b.err
   pub near : b.err <ℤ pos (2 ^ 40)
+
+-- the same as a test
+unfoldable pub is_small : Bounds → Bool
+is_small b = int_le (negsuc 2147483647) b.lo && int_le b.lo b.hi && int_le b.hi (pos 4294967295) && int_le (pos 0) b.err && int_lt b.err (pos (2 ^ 40))
+
+-- bounds, where they are small
+abbrev pub if_small : Bounds → Option Bounds
+if_small b = if is_small b then Some b else None

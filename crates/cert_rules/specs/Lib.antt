@@ -1,6 +1,11 @@
 pub mod Certificates
+pub mod Units
 pub mod Ranges
+pub mod ArithRules
+pub mod ArithSoundness
 pub mod Rules
+pub mod ArithCorners
+pub mod ArithWide
 pub mod Acceptance
 pub mod Entries
 pub mod Theorem

@@ -1,36 +1,19 @@
--- The range of a block's value: the hull of its values at the corners of its arguments' ranges.
+-- The hull of values at the corners of ranges, and the values of a form with binary points there.
 use Rattle.std.specs.Prelude.{ℕ, suc, zero, ◌+◌, List, [], ◌∷◌, ◌++◌, map, get_or, ℤ, pos, fold}
 use Rattle.std.specs.Int.{int_min, int_max}
 use Rattle.fx_fraction.specs.Fraction.{whole}
+use Rattle.fx_core.specs.declared.quotient.Mode.TheVariants.{Zero}
 use Rattle.fx_core.specs.Values.{rounded_fraction}
-use Rattle.net_model.specs.declared.wires.Kind.{Kind}
-use Rattle.net_model.specs.declared.wires.Block.{Block}
-use Rattle.net_model.specs.declared.wires.Block.TheVariants.{Arith, Scaled}
-use Rattle.net_model.specs.declared.first.ArithOp.{ArithOp}
-use Rattle.net_model.specs.declared.first.ArithOp.TheVariants.{Add}
+use Rattle.net_model.specs.Formulas.{scaled_formula}
+use Rattle.net_model.specs.declared.first.Points.{Points}
 use Rattle.net_model.specs.declared.first.ScaledOp.{ScaledOp}
 use Rattle.net_model.specs.declared.first.ScaledOp.TheVariants.{Convert}
-use Rattle.net_model.specs.declared.wires.Wire.{Wire}
-use Rattle.net_model.specs.Wires.{argument_of}
-use Rattle.net_meaning.specs.Blocks.{formula, mode_of}
 use Rattle.cert_rules.specs.declared.bounds.Bounds.{Bounds}
 
--- how many arguments an operation has
-abbrev pub arith_arity : ArithOp → ℕ
-arith_arity Add = 2
-
-abbrev pub scaled_arity : ScaledOp → ℕ
-scaled_arity Convert = 1
-
--- how many arguments a block has
-abbrev pub arity_of : Block → ℕ
-arity_of (Arith op v x y z sh) = arith_arity op
-arity_of (Scaled op v x y) = scaled_arity op
-
--- the bounds of n arguments of a block, from number p on, where `known` has those of each wire
-abbrev pub argument_bounds : (ℕ → Bounds) → Block → ℕ → ℕ → List Bounds
-argument_bounds known b p zero = []
-argument_bounds known b p (suc n) = known (argument_of b p) ∷ argument_bounds known b (p + 1) n
+-- the bounds of n arguments, from number p on
+abbrev pub given_bounds : (ℕ → Bounds) → ℕ → ℕ → List Bounds
+given_bounds given p zero = []
+given_bounds given p (suc n) = given p ∷ given_bounds given (p + 1) n
 
 -- the corners of ranges: all choices of one end of each
 abbrev pub corners_of : List Bounds → List (List ℤ)
@@ -46,10 +29,10 @@ abbrev pub greatest_among : List ℤ → ℤ
 greatest_among [] = pos 0
 greatest_among (v ∷ vs) = fold int_max v vs
 
--- a block's value at one corner, rounded and not saturated
-abbrev pub value_at_corner : List Wire → Kind → Block → List ℤ → ℤ
-value_at_corner wires kind b corner = rounded_fraction (mode_of b) (formula wires kind b (λ p ago. whole (get_or corner p (pos 0))) (whole (pos 0)))
+-- how many arguments a form with binary points has
+abbrev pub scaled_arity : ScaledOp → ℕ
+scaled_arity Convert = 1
 
--- a block's values at all corners of its arguments' ranges
-unfoldable pub corner_values : List Wire → Kind → Block → (ℕ → Bounds) → List ℤ
-corner_values wires kind b known = map (value_at_corner wires kind b) (corners_of (argument_bounds known b 0 (arity_of b)))
+-- the values of a form with binary points at all corners of its arguments' ranges, rounded and not saturated
+unfoldable pub corner_values : ScaledOp → Points → (ℕ → Bounds) → List ℤ
+corner_values op points given = map (λ corner. rounded_fraction Zero (scaled_formula op points (λ p. whole (get_or corner p (pos 0))))) (corners_of (given_bounds given 0 (scaled_arity op)))

@@ -1,8 +1,6 @@
 -- The rule of each part: the bounds that it gets from the bounds of others.
-use Rattle.std.specs.Prelude.{ℕ, ◌-◌, ◌^◌, Bool, false, ◌&&◌, List, ℤ, pos, ◌+ℤ◌, ◌*ℤ◌, int_le, int_lt, nat_le, Option, Some, None, if◌then◌else◌}
+use Rattle.std.specs.Prelude.{ℕ, ◌-◌, ◌^◌, Bool, false, not, ◌&&◌, ◌||◌, List, ℤ, pos, ◌+ℤ◌, ◌*ℤ◌, int_le, int_lt, nat_le, Option, Some, None, if◌then◌else◌}
 use Rattle.fx_core.specs.Rounding.{least_quotient_above, power}
-use Rattle.net_model.specs.declared.first.ArithOp.{ArithOp}
-use Rattle.net_model.specs.declared.first.ArithOp.TheVariants.{Add}
 use Rattle.net_model.specs.declared.first.ScaledOp.{ScaledOp}
 use Rattle.net_model.specs.declared.first.ScaledOp.TheVariants.{Convert}
 use Rattle.net_model.specs.declared.first.Points.{Points}
@@ -17,32 +15,31 @@ use Rattle.net_model.specs.declared.wires.Wire.{Wire}
 use Rattle.net_model.specs.Wires.{wire_at, kind_least, kind_greatest, argument_of}
 use Rattle.net_meaning.specs.Blocks.{points_of}
 use Rattle.cert_rules.specs.declared.bounds.Bounds.{Bounds}
+use Rattle.cert_rules.specs.Units.{one_count}
 use Rattle.cert_rules.specs.Ranges.{corner_values, least_among, greatest_among}
-
--- one raw count, by which a rounding toward zero may move a value; errors are in units of 1/65536 of a raw count
-abbrev pub one_count : ℤ
-one_count = pos 65536
+use Rattle.cert_rules.specs.ArithRules.{arith_may_divide_by_zero, arith_bounds}
+use Rattle.cert_rules.specs.ArithSoundness.{has_rule}
 
 -- the error through a change of the binary point from a to c: multiplied by the factor, and where digits are dropped
 -- rounded up and with one rounding more
 abbrev pub converted_error : ℕ → ℕ → ℤ → ℤ
 converted_error a c err = if nat_le a c then err *ℤ power (c - a) else least_quotient_above err (power (a - c)) +ℤ one_count
 
--- the error of a block's value, from the bounds of its arguments: one equation for each operation
-abbrev pub arith_error : ArithOp → (ℕ → Bounds) → ℤ
-arith_error Add given = (given 0).err +ℤ (given 1).err
-
+-- the error of a form with binary points
 abbrev pub scaled_error : ScaledOp → Points → (ℕ → Bounds) → ℤ
 scaled_error Convert points given = converted_error points.a points.c (given 0).err
 
-unfoldable pub error_of : List Wire → Kind → Block → (ℕ → Bounds) → ℤ
-error_of wires kind (Arith op v x y z sh) known = arith_error op (λ p. known (argument_of (Arith op v x y z sh) p))
-error_of wires kind (Scaled op v x y) known = scaled_error op (points_of wires kind (Scaled op v x y)) (λ p. known (argument_of (Scaled op v x y) p))
+-- the bounds of the value of a form with binary points, from those of its arguments
+unfoldable pub scaled_bounds : ScaledOp → Points → (ℕ → Bounds) → Bounds
+scaled_bounds op points given = record {
+  lo = least_among (corner_values op points given);
+  hi = greatest_among (corner_values op points given);
+  err = scaled_error op points given;
+}
 
--- whether a divisor of the block may be 0; no built block divides
-abbrev pub may_divide_by_zero : Block → (ℕ → Bounds) → Bool
-may_divide_by_zero (Arith op v x y z sh) known = false
-may_divide_by_zero (Scaled op v x y) known = false
+-- the bounds of a block's arguments, by their number, where `known` has those of each wire
+abbrev pub arguments_of : Block → (ℕ → Bounds) → ℕ → Bounds
+arguments_of b known p = known (argument_of b p)
 
 -- the ends of a part, and the number that its error has to be below
 abbrev pub part_least : Kind → Role → ℤ
@@ -58,23 +55,38 @@ error_cap Value = pos (2 ^ 40)
 unfoldable pub is_allowed : Kind → Role → Bounds → Bool
 is_allowed kind role b = int_le (part_least kind role) b.lo && int_le b.hi (part_greatest kind role) && int_lt b.err (error_cap role)
 
--- whether a divisor of a wire's value may be 0
+-- whether a block's value gets no bounds: its operation has no rule, or its divisor may be 0
+abbrev pub block_may_fail : Block → (ℕ → Bounds) → Bool
+block_may_fail (Arith op v x y z sh) known = not (has_rule op) || arith_may_divide_by_zero op (arguments_of (Arith op v x y z sh) known)
+block_may_fail (Scaled op v x y) known = false
+
+-- the same of a wire's value
 abbrev pub may_fail : Item → (ℕ → Bounds) → Bool
 may_fail (Input lo hi) known = false
 may_fail (Const value) known = false
-may_fail (OfBlock b) known = may_divide_by_zero b known
+may_fail (OfBlock b) known = block_may_fail b known
 
 -- the bounds of a wire's value, from those of each wire's value, before it is asked whether they are allowed
 unfoldable pub proposed : List Wire → Kind → Item → (ℕ → Bounds) → Bounds
 proposed wires kind (Input lo hi) known = record { lo = lo; hi = hi; err = pos 0 }
 proposed wires kind (Const value) known = record { lo = value; hi = value; err = pos 0 }
-proposed wires kind (OfBlock b) known = record { lo = least_among (corner_values wires kind b known); hi = greatest_among (corner_values wires kind b known); err = error_of wires kind b known }
+proposed wires kind (OfBlock (Arith op v x y z sh)) known = arith_bounds op sh (arguments_of (Arith op v x y z sh) known)
+proposed wires kind (OfBlock (Scaled op v x y)) known = scaled_bounds op (points_of wires kind (Scaled op v x y)) (arguments_of (Scaled op v x y) known)
+
+-- the same; none where the wire's value gets no bounds
+abbrev pub bounds_of : List Wire → Kind → Item → (ℕ → Bounds) → Option Bounds
+bounds_of wires kind item known = if may_fail item known then None else Some (proposed wires kind item known)
 
 -- bounds, where they are allowed
 abbrev pub if_allowed : Kind → Role → Bounds → Option Bounds
 if_allowed kind role b = if is_allowed kind role b then Some b else None
 
+-- what is allowed of bounds, where there are any
+abbrev pub allowed_of : Kind → Role → Option Bounds → Option Bounds
+allowed_of kind role None = None
+allowed_of kind role (Some b) = if_allowed kind role b
+
 -- the rule of a part of wire i: its bounds, from those of all parts (`all w r` are those of part r of wire w); none
--- where a divisor may be 0, or where the bounds aren't allowed
+-- where the wire's value gets no bounds, or where they aren't allowed
 unfoldable pub rule_of : List Wire → ℕ → Role → (ℕ → Role → Bounds) → Option Bounds
 rule_of wires i Value all = if may_fail (wire_at wires i).item (λ w. all w Value) then None else if_allowed (wire_at wires i).kind Value (proposed wires (wire_at wires i).kind (wire_at wires i).item (λ w. all w Value))

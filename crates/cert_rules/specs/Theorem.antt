@@ -22,6 +22,6 @@ CertificatesHold = (net : NetData) (entries : List Bounds) → IsValid net → A
 abbrev pub AcceptsExactly : Type 0
 AcceptsExactly = (wires : List Wire) (entries : List Bounds) → IsSmooth wires → length entries ≡ length (parts_of wires) → (first_rejected wires entries ≡ None ↔ Accepts wires entries)
 
--- every wire that a network can be made of is smooth
+-- every valid network is smooth, since no remainder is built
 abbrev pub AllAreSmooth : Type 0
-AllAreSmooth = (wires : List Wire) → IsSmooth wires
+AllAreSmooth = (net : NetData) → IsValid net → IsSmooth net.wires

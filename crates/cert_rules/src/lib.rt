@@ -2,16 +2,25 @@
 // accepted certificate holds over every recording.
 #![tactic(auto)]
 
+mod arith_errors;
+mod arith_laws;
+mod arith_ranges;
+mod arith_ruling;
+#[cfg(test)]
+mod arith_tests;
+mod arith_values;
 mod bounds;
 mod checking;
 mod limits;
 mod lookups;
+mod narrowing;
 mod promise;
 mod ruling;
 mod steps;
 #[cfg(test)]
 mod tests;
 
+pub use arith_laws::law_of_arith_rules;
 pub use bounds::Bounds;
 pub use checking::rejected_part;
 pub use limits::allowed;

@@ -9,7 +9,7 @@ pub fn certificates_hold()
 {}
 
 /// Does nothing: its clauses say that a certificate with an entry for each part is accepted exactly
-/// where no part is rejected, and that each network is smooth.
+/// where no part is rejected, and that each valid network is smooth.
 pub fn acceptance_is_exact()
     ensures exact { AcceptsExactly }
     ensures smooth { AllAreSmooth }

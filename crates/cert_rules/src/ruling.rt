@@ -4,18 +4,20 @@ ghost use Rattle.std.specs.Prelude.{◌≡◌, ◌<◌, length};
 ghost use Rattle.net_model.specs.Wires.{parts_of, wire_at};
 ghost use Rattle.net_model.specs.Validity.{IsValid};
 ghost use Rattle.cert_rules.specs.Certificates.{entry_of};
-ghost use Rattle.cert_rules.specs.Rules.{proposed, rule_of};
+ghost use Rattle.cert_rules.specs.Rules.{allowed_of, bounds_of, rule_of};
 ghost use Rattle.cert_rules.specs.Acceptance.{part_at};
 ghost use Rattle.cert_rules.specs.Entries.{AreSound};
 
 use crate::bounds::Bounds;
 use crate::limits::is_within_limits;
 use crate::lookups::{item_at, kind_at, part_numbered, point_at, value_entry};
-use crate::steps::{converted_bounds, sum_bounds};
-use net_model::first::{ArithOp, ScaledOp};
+use crate::narrowing::operation_bounds;
+use crate::steps::converted_bounds;
+use net_model::first::ScaledOp;
 use net_model::{Block, Item, Network, PartNo, Role, WireNo};
 
-/// The bounds of a part by its rule, from an entry for each part: None where they aren't allowed.
+/// The bounds of a part by its rule, from an entry for each part: None where its block has no rule, or
+/// where they aren't allowed.
 pub fn rule(net: &Network, part: PartNo, all: &[Bounds]) -> Option<Bounds>
     requires there { part.0 < length (parts_of net.now.wires) }
     requires complete { length all.now ≡ length (parts_of net.now.wires) }
@@ -29,7 +31,7 @@ pub fn rule(net: &Network, part: PartNo, all: &[Bounds]) -> Option<Bounds>
     }
 }
 
-/// The rule of a wire's value. No built block divides, so none fails.
+/// The rule of a wire's value.
 fn value_rule(net: &Network, wire: WireNo, all: &[Bounds]) -> Option<Bounds>
     requires valid { IsValid net.now }
     requires there { wire.0 < length net.now.wires }
@@ -37,7 +39,7 @@ fn value_rule(net: &Network, wire: WireNo, all: &[Bounds]) -> Option<Bounds>
     requires sound { AreSound net.now.wires all.now }
     ensures { result ≡ rule_of net.now.wires wire.0 Role.Value (entry_of net.now.wires all.now) }
 {
-    let b = item_bounds(net, wire, all);
+    let b = item_bounds(net, wire, all)?;
     if is_within_limits(kind_at(net, wire), Role::Value, b) {
         Some(b)
     } else {
@@ -45,48 +47,59 @@ fn value_rule(net: &Network, wire: WireNo, all: &[Bounds]) -> Option<Bounds>
     }
 }
 
-/// The bounds of a wire's value, before it is asked whether they are allowed.
-fn item_bounds(net: &Network, wire: WireNo, all: &[Bounds]) -> Bounds
+/// Bounds of which what is allowed is the rule of a wire's value: None where its block has no rule, and
+/// at most where none are allowed.
+fn item_bounds(net: &Network, wire: WireNo, all: &[Bounds]) -> Option<Bounds>
     requires valid { IsValid net.now }
     requires there { wire.0 < length net.now.wires }
     requires complete { length all.now ≡ length (parts_of net.now.wires) }
     requires sound { AreSound net.now.wires all.now }
     ensures { let w = wire_at net.now.wires wire.0 in
-        result ≡ proposed net.now.wires w.kind w.item (λ k. entry_of net.now.wires all.now k Role.Value) }
+        allowed_of w.kind Role.Value result
+        ≡ allowed_of w.kind Role.Value (bounds_of net.now.wires w.kind w.item (λ k. entry_of net.now.wires all.now k Role.Value)) }
 {
     match item_at(net, wire) {
-        Item::Input { lo, hi } => Bounds { lo, hi, err: 0 },
-        Item::Const { value } => Bounds {
+        Item::Input { lo, hi } => Some(Bounds { lo, hi, err: 0 }),
+        Item::Const { value } => Some(Bounds {
             lo: value,
             hi: value,
             err: 0,
-        },
+        }),
         Item::Block(block) => block_bounds(net, wire, block, all),
     }
 }
 
-/// The bounds of a block's value on its wire.
-fn block_bounds(net: &Network, wire: WireNo, block: Block, all: &[Bounds]) -> Bounds
+/// The same of a block's value on its wire.
+fn block_bounds(net: &Network, wire: WireNo, block: Block, all: &[Bounds]) -> Option<Bounds>
     requires valid { IsValid net.now }
     requires there { wire.0 < length net.now.wires }
     requires block { (wire_at net.now.wires wire.0).item ≡ Item.Block block }
     requires complete { length all.now ≡ length (parts_of net.now.wires) }
     requires sound { AreSound net.now.wires all.now }
-    ensures { result ≡ proposed net.now.wires (wire_at net.now.wires wire.0).kind (Item.Block block)
-        (λ k. entry_of net.now.wires all.now k Role.Value) }
+    ensures { let kind = (wire_at net.now.wires wire.0).kind in
+        allowed_of kind Role.Value result
+        ≡ allowed_of kind Role.Value (bounds_of net.now.wires kind (Item.Block block) (λ k. entry_of net.now.wires all.now k Role.Value)) }
 {
     match block {
-        Block::Arith { op, x, y, .. } => {
+        Block::Arith {
+            op,
+            x,
+            y,
+            z,
+            sh,
+            ..
+        } => {
             let first = value_entry(all, x);
             let second = value_entry(all, y);
-            match op {
-                ArithOp::Add => sum_bounds(first, second),
-            }
+            let third = value_entry(all, z);
+            operation_bounds(op, sh, first, second, third)
         }
         Block::Scaled { op, x, .. } => {
             let first = value_entry(all, x);
             match op {
-                ScaledOp::Convert => converted_bounds(first, point_at(net, x), point_at(net, wire)),
+                ScaledOp::Convert => {
+                    Some(converted_bounds(first, point_at(net, x), point_at(net, wire)))
+                }
             }
         }
     }

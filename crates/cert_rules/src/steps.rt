@@ -1,6 +1,6 @@
-// The bounds of a sum and of a conversion, by the ends of their arguments' ranges.
+// The bounds of a conversion, by the ends of its argument's range.
 
-ghost use Rattle.std.specs.Prelude.{◌≡◌, ℕ, ◌^◌, ◌≤◌, ◌<◌, pos, ◌+ℤ◌, ◌-ℤ◌, ◌≤ℤ◌, ◌<ℤ◌, unsigned_abs};
+ghost use Rattle.std.specs.Prelude.{◌≡◌, ℕ, ◌^◌, ◌≤◌, ◌<◌, pos, ◌-ℤ◌, ◌≤ℤ◌, ◌<ℤ◌, unsigned_abs};
 ghost use Rattle.fx_core.specs.Rounding.{shifted_rounded};
 ghost use Rattle.cert_rules.specs.Rules.{converted_error};
 ghost use Rattle.cert_rules.specs.Entries.{IsSmall};
@@ -10,21 +10,6 @@ use fx_core::{Mode, ceil_div, shift_round};
 
 /// What a rounding toward zero may move a value by, one raw count, in the units of errors.
 const ONE_COUNT: i64 = 65536;
-
-/// The bounds of the sum of two numbers.
-pub(crate) fn sum_bounds(x: Bounds, y: Bounds) -> Bounds
-    requires first { IsSmall x }
-    requires second { IsSmall y }
-    ensures lo { result.lo ≡ x.lo +ℤ y.lo }
-    ensures hi { result.hi ≡ x.hi +ℤ y.hi }
-    ensures err { result.err ≡ x.err +ℤ y.err }
-{
-    Bounds {
-        lo: x.lo + y.lo,
-        hi: x.hi + y.hi,
-        err: x.err + y.err,
-    }
-}
 
 /// The bounds of a number at the binary point `c` from its bounds at the point `a`.
 pub(crate) fn converted_bounds(x: Bounds, a: u8, c: u8) -> Bounds

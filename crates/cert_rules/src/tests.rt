@@ -1,6 +1,7 @@
 use crate::{Bounds, rejected_part};
 use fx_core::Ty;
-use net_model::first::{ArithOp, ScaledOp, Variant};
+use mfx_arith::{ArithOp, Variant};
+use net_model::first::ScaledOp;
 use net_model::{Block, Draft, Item, Kind, Name, NameFault, Network, PartNo, Wire, WireNo};
 use std::alloc::Global;
 use std::test::Fail;

@@ -1,0 +1,57 @@
+-- A rule of arithmetic reads three arguments at most, and the bounds that it gives are proper.
+use Rattle.std.specs.Prelude.{◌≡◌, ℕ, true, false, pos, ◌≤ℤ◌}
+use Rattle.std.proofs.Common.{refl, arith}
+use Rattle.fx_fraction.specs.Fraction.{whole, over, distance, AtMost}
+use Rattle.fx_fraction.proofs.Order.{AtMost_trans, AtMost-over}
+use Rattle.fx_fraction.proofs.WholeNumbers.{int_le_refl, int_le_trans}
+use Rattle.mfx_arith.specs.declared.operation.ArithOp.{ArithOp}
+use Rattle.mfx_arith.specs.declared.operation.ArithOp.TheVariants.{Add, Sub, AbsDiff, Abs, Mul, Div, Mod, MulDiv, MulShRight, DivShLeft, Limit, Min, Max, RateLimiter}
+use Rattle.cert_rules.specs.declared.bounds.Bounds.{Bounds}
+use Rattle.cert_rules.specs.Certificates.{IsWithin}
+use Rattle.cert_rules.specs.Entries.{IsSmall}
+use Rattle.cert_rules.specs.ArithCorners.{three}
+use Rattle.cert_rules.specs.ArithSoundness.{HasUnsignedStep, has_rule}
+use Rattle.cert_rules.proofs.ArithProducts.{near_positive}
+use Rattle.cert_rules.proofs.ArithSoundnessProof.{arith_rules_are_sound}
+use Rattle.cert_rules.proofs.RuleSoundness.{itself_within}
+use Rattle.cert_rules.specs.ArithRules.{arith_bounds, arith_may_divide_by_zero, arith_values}
+
+pub bounds_of_three : (op : ArithOp) (shift : ℕ) (given : ℕ → Bounds) → arith_bounds op shift (three (given 0) (given 1) (given 2)) ≡ arith_bounds op shift given
+unfolding arith_bounds arith_values
+bounds_of_three Add shift given = refl
+bounds_of_three Sub shift given = refl
+bounds_of_three AbsDiff shift given = refl
+bounds_of_three Abs shift given = refl
+bounds_of_three Mul shift given = refl
+bounds_of_three Div shift given = refl
+bounds_of_three Mod shift given = refl
+bounds_of_three MulDiv shift given = refl
+bounds_of_three MulShRight shift given = refl
+bounds_of_three DivShLeft shift given = refl
+bounds_of_three Limit shift given = refl
+bounds_of_three Min shift given = refl
+bounds_of_three Max shift given = refl
+bounds_of_three RateLimiter shift given = refl
+
+pub divisor_of_three : (op : ArithOp) (given : ℕ → Bounds) → arith_may_divide_by_zero op (three (given 0) (given 1) (given 2)) ≡ arith_may_divide_by_zero op given
+divisor_of_three Div given = refl
+divisor_of_three DivShLeft given = refl
+divisor_of_three MulDiv given = refl
+divisor_of_three other given = refl
+
+-- ---- its range isn't empty and its error isn't negative: the arguments' least values have their value within it
+
+corner_within : (b : Bounds) → IsSmall b → IsWithin b b.lo (whole b.lo)
+corner_within b small =
+    let same : AtMost (distance (whole b.lo) (whole b.lo)) (over (pos 0) 65536) = itself_within b.lo in
+    record {
+      low = int_le_refl b.lo;
+      high = small.ordered;
+      near = AtMost_trans (distance (whole b.lo) (whole b.lo)) (over (pos 0) 65536) (over b.err 65536) same (AtMost-over (pos 0) b.err 65536 (omega arith) small.positive);
+    }
+
+pub proper_bounds : (op : ArithOp) (shift : ℕ) (given : ℕ → Bounds) → has_rule op ≡ true → arith_may_divide_by_zero op given ≡ false → HasUnsignedStep op given → ((p : ℕ) → IsSmall (given p)) → ((arith_bounds op shift given).lo ≤ℤ (arith_bounds op shift given).hi) × (pos 0 ≤ℤ (arith_bounds op shift given).err)
+proper_bounds op shift given ruled away step small =
+    let b = arith_bounds op shift given in
+    let keeps = arith_rules_are_sound op ruled shift given (λ p. (given p).lo) (λ p. whole (given p).lo) away step (λ p _. corner_within (given p) (small p)) in
+    (int_le_trans _ _ _ keeps.within.low keeps.within.high, near_positive _ b.err _ (record { near = keeps.within.near }))

@@ -1,0 +1,25 @@
+use Rattle.std.proofs.Common.{rules, ◌∙◌, ap₂, arith, ◌*ℤ◌}
+use Rattle.std.specs.Int.{w128}
+use Rattle.std.proofs.lemmas.Int.{ints, to_z-of_z}
+use Rattle.cert_rules.proofs.ArithSizes.{DivisorWords, divisor_words, product_some}
+use Rattle.cert_rules.proofs.arith_errors.divisors.Goals as goal
+
+words : (c : goal.After-from) → DivisorWords c.args.y c.least_reach-least.result c.from.result
+words c =
+    divisor_words c.args.y c.least_reach-least.result c.from.result c.requires.small c.requires.nonzero c.least_reach-least.ensures.low c.least_reach-least.ensures.high c.least_reach-least.ensures.value (omega (arith, ints))
+
+pub product-requires-clause-second_low : goal.product-requires-clause-second_low
+product-requires-clause-second_low c =
+    let w = words c in
+    let low = w.low in
+    rw w.left (omega (arith, ints, low))
+
+pub returns-clause-value : goal.returns-clause-value
+returns-clause-value c =
+    let w : DivisorWords c.args.y c.least_reach-least.result c.from.result = divisor_words c.args.y c.least_reach-least.result c.from.result c.requires.small c.requires.nonzero c.least_reach-least.ensures.low c.least_reach-least.ensures.high c.least_reach-least.ensures.value (omega (arith, ints)) in
+    to_z-of_z w128 c.product.result (search rules) ∙ c.product.ensures.value ∙ ap₂ (λ s t. s *ℤ t) w.plain w.left
+
+pub returns-clause-low : goal.returns-clause-low
+returns-clause-low c =
+    let w : DivisorWords c.args.y c.least_reach-least.result c.from.result = divisor_words c.args.y c.least_reach-least.result c.from.result c.requires.small c.requires.nonzero c.least_reach-least.ensures.low c.least_reach-least.ensures.high c.least_reach-least.ensures.value (omega (arith, ints)) in
+    rw (returns-clause-value c) (product_some _ _ w.some w.low)

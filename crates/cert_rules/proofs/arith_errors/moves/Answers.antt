@@ -1,0 +1,23 @@
+use Rattle.std.proofs.Common.{◌∙◌, ap, arith, pos, ◌*ℤ◌}
+use Rattle.std.proofs.lemmas.Int.{ints}
+use Rattle.cert_rules.proofs.ArithSizes.{DividendWords, dividend_words, dividend_fits, dividend_times_fits, dividend_times_word, dividend_low, dividend_high}
+use Rattle.cert_rules.proofs.arith_errors.moves.Goals as goal
+
+words : (c : goal.After-product-2) → DividendWords c.args.top c.args.err c.args.y c.product.result c.product-2.result
+words c =
+    dividend_words c.args.top c.args.err c.args.y c.least_reach-least.result c.from-y_err.result c.product.result c.product-2.result c.requires.divisor c.requires.top_low c.requires.top_high c.requires.low c.requires.high c.least_reach-least.ensures.low c.least_reach-least.ensures.high c.least_reach-least.ensures.value (omega (arith, ints)) c.product.ensures.value c.product-2.ensures.value
+
+pub overflow_add-result : goal.overflow_add-result
+overflow_add-result c = dividend_fits _ _ (words c)
+
+pub overflow_mul-result : goal.overflow_mul-result
+overflow_mul-result c = dividend_times_fits _ _ (words c)
+
+pub returns-clause-value : goal.returns-clause-value
+returns-clause-value c = dividend_times_word _ _ (words c) ∙ ap (λ t. pos 65536 *ℤ t) (words c).value
+
+pub returns-clause-low : goal.returns-clause-low
+returns-clause-low c = rw (dividend_times_word _ _ (words c)) (dividend_low (words c))
+
+pub returns-clause-high : goal.returns-clause-high
+returns-clause-high c = rw (dividend_times_word _ _ (words c)) (dividend_high (words c))

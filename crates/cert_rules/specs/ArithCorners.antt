@@ -1,0 +1,51 @@
+-- What the functions of the rules of arithmetic read: three numbers, and three bounds, as an operation's arguments.
+use Rattle.std.specs.Prelude.{ℕ, zero, suc, ◌≤◌, ℤ, unsigned_abs}
+use Rattle.std.specs.Int.{int_min, int_max}
+use Rattle.mfx_arith.specs.declared.operation.ArithOp.{ArithOp}
+use Rattle.mfx_arith.specs.declared.operation.ArithOp.TheVariants.{Div, MulDiv, DivShLeft}
+use Rattle.cert_rules.specs.declared.bounds.Bounds.{Bounds}
+use Rattle.cert_rules.specs.ArithRules.{arith_rounded}
+
+-- three as arguments; what an operation doesn't have isn't looked at
+abbrev pub three : {A : Type 0} → A → A → A → ℕ → A
+three x y z zero = x
+three x y z (suc zero) = y
+three x y z (suc (suc p)) = z
+
+-- an operation's value at three whole numbers, rounded and not saturated
+unfoldable pub corner_value : ArithOp → ℕ → ℤ → ℤ → ℤ → ℤ
+corner_value op shift x y z = arith_rounded op shift (three x y z)
+
+-- the divisor of an operation isn't 0
+abbrev pub HasDivisor : ArithOp → ℤ → ℤ → Type 0
+HasDivisor Div y z = 1 ≤ unsigned_abs y
+HasDivisor DivShLeft y z = 1 ≤ unsigned_abs y
+HasDivisor MulDiv y z = 1 ≤ unsigned_abs z
+HasDivisor other y z = Unit {0}
+
+-- whether the divisor of an operation isn't 0 at the ends of its range
+abbrev pub HasDivisorsAtEnds : ArithOp → Bounds → Bounds → Type 0
+HasDivisorsAtEnds Div y z = (1 ≤ unsigned_abs y.lo) × (1 ≤ unsigned_abs y.hi)
+HasDivisorsAtEnds DivShLeft y z = (1 ≤ unsigned_abs y.lo) × (1 ≤ unsigned_abs y.hi)
+HasDivisorsAtEnds MulDiv y z = (1 ≤ unsigned_abs z.lo) × (1 ≤ unsigned_abs z.hi)
+HasDivisorsAtEnds other y z = Unit {0}
+
+-- the least and the greatest of an operation's values over the ends of its third argument's range, of its second's and of
+-- its first's; an end of what the operation doesn't have changes nothing
+unfoldable pub least_over_third : ArithOp → ℕ → ℤ → ℤ → Bounds → ℤ
+least_over_third op shift x y z = int_min (corner_value op shift x y z.lo) (corner_value op shift x y z.hi)
+
+unfoldable pub greatest_over_third : ArithOp → ℕ → ℤ → ℤ → Bounds → ℤ
+greatest_over_third op shift x y z = int_max (corner_value op shift x y z.lo) (corner_value op shift x y z.hi)
+
+unfoldable pub least_over_second : ArithOp → ℕ → ℤ → Bounds → Bounds → ℤ
+least_over_second op shift x y z = int_min (least_over_third op shift x y.lo z) (least_over_third op shift x y.hi z)
+
+unfoldable pub greatest_over_second : ArithOp → ℕ → ℤ → Bounds → Bounds → ℤ
+greatest_over_second op shift x y z = int_max (greatest_over_third op shift x y.lo z) (greatest_over_third op shift x y.hi z)
+
+unfoldable pub least_at_corners : ArithOp → ℕ → Bounds → Bounds → Bounds → ℤ
+least_at_corners op shift x y z = int_min (least_over_second op shift x.lo y z) (least_over_second op shift x.hi y z)
+
+unfoldable pub greatest_at_corners : ArithOp → ℕ → Bounds → Bounds → Bounds → ℤ
+greatest_at_corners op shift x y z = int_max (greatest_over_second op shift x.lo y z) (greatest_over_second op shift x.hi y z)

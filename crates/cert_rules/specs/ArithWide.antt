@@ -1,0 +1,6 @@
+-- What wide bounds say, as bounds.
+use Rattle.cert_rules.specs.declared.bounds.Bounds.{Bounds}
+use Rattle.cert_rules.specs.declared.arith_ruling.WideBounds.{WideBounds}
+
+abbrev pub exact_bounds : WideBounds → Bounds
+exact_bounds b = record { lo = b.lo; hi = b.hi; err = b.err }

@@ -1,0 +1,216 @@
+// The error of an operation of arithmetic, in units of 1/65536 of a raw count. The ends of a range have
+// at most 32 bits and errors at most 40, so the error of a product has at most 74, and no number here
+// more than 126.
+
+ghost use Rattle.std.specs.Prelude.{◌≡◌, ℕ, pos, ◌*◌, ◌^◌, ◌<◌, ◌≤◌, ◌≤ℤ◌, ◌<ℤ◌, ◌+ℤ◌, ◌-ℤ◌, ◌*ℤ◌, false, unsigned_abs, IsTrue};
+ghost use Rattle.std.specs.Int.{int_max};
+ghost use Rattle.cert_rules.specs.ArithCorners.{three};
+ghost use Rattle.cert_rules.specs.ArithSoundness.{has_rule};
+ghost use Rattle.fx_core.specs.Rounding.{power};
+ghost use Rattle.cert_rules.specs.ArithRules.{arith_error, arith_may_divide_by_zero, holds_zero, least_reach, may_be_zero, product_error, quotient_error, reach, shifted_error};
+ghost use Rattle.cert_rules.specs.Entries.{IsSmall};
+
+use crate::arith_values::{greater, lesser, power_of_two};
+use crate::bounds::Bounds;
+use fx_core::ceil_div;
+use mfx_arith::ArithOp;
+
+/// What a rounding toward zero may move a value by, one raw count, in the units of errors.
+const ONE_COUNT: i128 = 65536;
+
+/// The error of an operation's value.
+pub(crate) fn error_of(op: ArithOp, shift: u8, x: Bounds, y: Bounds, z: Bounds) -> i128
+    requires rule { IsTrue (has_rule op) }
+    requires shift { shift ≤ 15 }
+    requires first { IsSmall x }
+    requires second { IsSmall y }
+    requires third { IsSmall z }
+    requires nonzero { arith_may_divide_by_zero op (three x y z) ≡ false }
+    ensures { result ≡ arith_error op shift (three x y z) }
+{
+    match op {
+        ArithOp::Add | ArithOp::Sub | ArithOp::AbsDiff => sum_error(x, y),
+        ArithOp::Abs => i128::from(x.err),
+        ArithOp::Mul => product_error(x, y),
+        ArithOp::Div => quotient_error(reach(x), i128::from(x.err), y),
+        ArithOp::Mod => unreachable!(),
+        ArithOp::MulDiv => product_quotient_error(x, y, z),
+        ArithOp::MulShRight => shifted_error(shift, product_error(x, y)),
+        ArithOp::DivShLeft => shifted_quotient_error(shift, x, y),
+        ArithOp::Limit => greater(greater_error(x, y), i128::from(z.err)),
+        ArithOp::Min | ArithOp::Max => greater_error(x, y),
+        ArithOp::RateLimiter => greater(i128::from(x.err), sum_error(y, z)),
+    }
+}
+
+fn sum_error(x: Bounds, y: Bounds) -> i128
+    requires first { IsSmall x }
+    requires second { IsSmall y }
+    ensures { result ≡ x.err +ℤ y.err }
+{
+    i128::from(x.err + y.err)
+}
+
+fn greater_error(x: Bounds, y: Bounds) -> i128
+    ensures { result ≡ int_max x.err y.err }
+{
+    greater(i128::from(x.err), i128::from(y.err))
+}
+
+/// The greatest absolute value in a range.
+pub(crate) fn reach(b: Bounds) -> i128
+    requires { IsSmall b }
+    ensures value { result ≡ reach b }
+    ensures low { pos 0 ≤ℤ result }
+    ensures high { result <ℤ pos (2 ^ 32) }
+{
+    greater(magnitude(b.lo), magnitude(b.hi))
+}
+
+/// The least absolute value in a range.
+fn least_reach(b: Bounds) -> i128
+    requires { IsSmall b }
+    ensures value { result ≡ least_reach b }
+    ensures low { pos 0 ≤ℤ result }
+    ensures high { result <ℤ pos (2 ^ 32) }
+{
+    if holds_zero(b) {
+        0
+    } else {
+        lesser(magnitude(b.lo), magnitude(b.hi))
+    }
+}
+
+fn magnitude(end: i64) -> i128
+    requires { unsigned_abs end < 2 ^ 32 }
+    ensures value { result ≡ pos (unsigned_abs end) }
+    ensures high { result <ℤ pos (2 ^ 32) }
+{
+    i128::from(end).abs()
+}
+
+fn holds_zero(b: Bounds) -> bool
+    ensures { result ≡ holds_zero b }
+{
+    b.lo <= 0 && 0 <= b.hi
+}
+
+/// Whether a divisor may be 0: in the machine, where its range holds 0, or as a fraction, where its
+/// error reaches to 0.
+pub(crate) fn may_be_zero(y: Bounds) -> bool
+    requires { IsSmall y }
+    ensures { result ≡ may_be_zero y }
+{
+    holds_zero(y) || ONE_COUNT * least_reach(y) <= i128::from(y.err)
+}
+
+/// The error of a product.
+#[tactic(auto, unfolding(crate::specs::ArithRules::product_error))]
+pub(crate) fn product_error(x: Bounds, y: Bounds) -> i128
+    requires first { IsSmall x }
+    requires second { IsSmall y }
+    ensures value { result ≡ product_error x y }
+    ensures low { pos 0 ≤ℤ result }
+    ensures high { result <ℤ pos (2 ^ 74) }
+{
+    let (x_err, y_err) = (i128::from(x.err), i128::from(y.err));
+    let first = product(reach(x), y_err);
+    let second = product(reach(y), x_err);
+    let both = product(x_err, y_err);
+    first + second + ceil_div(both, ONE_COUNT)
+}
+
+/// The error of what is divided by two to a power. By 1 nothing is rounded.
+#[tactic(auto, unfolding(crate::specs::ArithRules::shifted_error))]
+pub(crate) fn shifted_error(shift: u8, err: i128) -> i128
+    requires shift { shift ≤ 15 }
+    requires low { pos 0 ≤ℤ err }
+    requires high { err <ℤ pos (2 ^ 74) }
+    ensures { result ≡ shifted_error shift err }
+{
+    if shift == 0 {
+        err
+    } else {
+        ceil_div(err, power_of_two(shift)) + ONE_COUNT
+    }
+}
+
+/// The error of a quotient, from the reach `top` and the error of the dividend.
+#[tactic(auto, unfolding(crate::specs::ArithRules::quotient_error))]
+pub(crate) fn quotient_error(top: i128, err: i128, y: Bounds) -> i128
+    requires top_low { pos 0 ≤ℤ top }
+    requires top_high { top <ℤ pos (2 ^ 64) }
+    requires low { pos 0 ≤ℤ err }
+    requires high { err <ℤ pos (2 ^ 74) }
+    requires divisor { IsSmall y }
+    requires nonzero { may_be_zero y ≡ false }
+    ensures { result ≡ quotient_error top err y }
+{
+    ceil_div(moves(top, err, y), divisors(y)) + ONE_COUNT
+}
+
+// How far the cross products of a quotient are apart, in the units of errors.
+fn moves(top: i128, err: i128, y: Bounds) -> i128
+    requires top_low { pos 0 ≤ℤ top }
+    requires top_high { top <ℤ pos (2 ^ 64) }
+    requires low { pos 0 ≤ℤ err }
+    requires high { err <ℤ pos (2 ^ 74) }
+    requires divisor { IsSmall y }
+    ensures value { result ≡ pos 65536 *ℤ (top *ℤ y.err +ℤ least_reach y *ℤ err) }
+    ensures low { pos 0 ≤ℤ result }
+    ensures high { result <ℤ pos (2 ^ 124) }
+{
+    let (least, y_err) = (least_reach(y), i128::from(y.err));
+    ONE_COUNT * (product(top, y_err) + product(err, least))
+}
+
+// The product of the divisor in the machine and the divisor as a fraction, both where they are least.
+fn divisors(y: Bounds) -> i128
+    requires small { IsSmall y }
+    requires nonzero { may_be_zero y ≡ false }
+    ensures value { result ≡ least_reach y *ℤ (pos 65536 *ℤ least_reach y -ℤ y.err) }
+    ensures low { pos 1 ≤ℤ result }
+{
+    let least = least_reach(y);
+    product(least, ONE_COUNT * least - i128::from(y.err))
+}
+
+// The error of a quotient whose dividend is shifted to the left.
+fn shifted_quotient_error(shift: u8, x: Bounds, y: Bounds) -> i128
+    requires shift { shift ≤ 15 }
+    requires dividend { IsSmall x }
+    requires divisor { IsSmall y }
+    requires nonzero { may_be_zero y ≡ false }
+    ensures { result ≡ quotient_error (reach x *ℤ power shift) (x.err *ℤ power shift) y }
+{
+    let factor = power_of_two(shift);
+    quotient_error(
+        product(reach(x), factor),
+        product(i128::from(x.err), factor),
+        y,
+    )
+}
+
+// The error of a product over a third.
+fn product_quotient_error(x: Bounds, y: Bounds, z: Bounds) -> i128
+    requires first { IsSmall x }
+    requires second { IsSmall y }
+    requires divisor { IsSmall z }
+    requires nonzero { may_be_zero z ≡ false }
+    ensures { result ≡ quotient_error (reach x *ℤ reach y) (product_error x y) z }
+{
+    quotient_error(product(reach(x), reach(y)), product_error(x, y), z)
+}
+
+// The product of a number of at most 78 bits and one of at most 48.
+fn product(x: i128, y: i128) -> i128
+    requires first_low { pos 0 ≤ℤ x }
+    requires first_high { x <ℤ pos (2 ^ 78) }
+    requires second_low { pos 0 ≤ℤ y }
+    requires second_high { y <ℤ pos (2 ^ 49) }
+    ensures value { result ≡ x *ℤ y }
+    ensures low { pos 0 ≤ℤ result }
+    ensures size { (m n : ℕ) → x ≤ℤ pos m → y ≤ℤ pos n → result ≤ℤ pos (m * n) }
+{
+    x * y
+}

@@ -1,0 +1,130 @@
+// The range of an operation of arithmetic: the hull of its values at the corners of its arguments'
+// ranges.
+
+ghost use Rattle.std.specs.Prelude.{◌≡◌, pos, ◌<◌, ◌≤◌, ◌^◌, ◌&&◌, if◌then◌else◌, int_le, unsigned_abs, IsTrue};
+ghost use Rattle.std.specs.Int.{int_max, int_min};
+ghost use Rattle.cert_rules.specs.ArithCorners.{HasDivisor, HasDivisorsAtEnds, greatest_at_corners, greatest_over_second, greatest_over_third, least_at_corners, least_over_second, least_over_third, three};
+ghost use Rattle.cert_rules.specs.ArithRules.{arith_values};
+ghost use Rattle.cert_rules.specs.ArithSoundness.{has_rule};
+ghost use Rattle.cert_rules.specs.Entries.{IsSmall};
+ghost use Rattle.cert_rules.specs.Ranges.{greatest_among, least_among};
+
+use crate::arith_values::{greater, lesser, value_at};
+use crate::bounds::Bounds;
+use mfx_arith::ArithOp;
+
+/// The numbers from `lo` to `hi`.
+#[derive(Clone, Copy)]
+pub(crate) struct Range {
+    pub(crate) lo: i128,
+    pub(crate) hi: i128,
+}
+
+impl Range {
+    /// One number.
+    fn at(number: i128) -> Range
+        ensures lo { result.lo ≡ number }
+        ensures hi { result.hi ≡ number }
+    {
+        Range {
+            lo: number,
+            hi: number,
+        }
+    }
+
+    /// The hull of both ranges.
+    fn joined(self, other: Range) -> Range
+        ensures lo { result.lo ≡ int_min self.lo other.lo }
+        ensures hi { result.hi ≡ int_max self.hi other.hi }
+    {
+        Range {
+            lo: lesser(self.lo, other.lo),
+            hi: greater(self.hi, other.hi),
+        }
+    }
+
+    /// The range of an absolute value from that at the corners: joined with 0 where what stands
+    /// inside takes 0 or both signs there.
+    fn turned(self, inside: Range) -> Range
+        ensures lo { result.lo ≡ (if int_le inside.lo (pos 0) && int_le (pos 0) inside.hi then int_min self.lo (pos 0) else self.lo) }
+        ensures hi { result.hi ≡ (if int_le inside.lo (pos 0) && int_le (pos 0) inside.hi then int_max self.hi (pos 0) else self.hi) }
+    {
+        if inside.lo <= 0 && 0 <= inside.hi {
+            self.joined(Range::at(0))
+        } else {
+            self
+        }
+    }
+}
+
+// The values over the ends of the third argument's range.
+#[tactic(auto, unfolding(crate::specs::ArithCorners::least_over_third, crate::specs::ArithCorners::greatest_over_third))]
+fn over_third(op: ArithOp, shift: u8, x: i64, y: i64, z: Bounds) -> Range
+    requires rule { IsTrue (has_rule op) }
+    requires shift { shift ≤ 15 }
+    requires first { unsigned_abs x < 2 ^ 32 }
+    requires second { unsigned_abs y < 2 ^ 32 }
+    requires third { IsSmall z }
+    requires low_divisor { HasDivisor op y z.lo }
+    requires high_divisor { HasDivisor op y z.hi }
+    ensures lo { result.lo ≡ least_over_third op shift x y z }
+    ensures hi { result.hi ≡ greatest_over_third op shift x y z }
+{
+    Range::at(value_at(op, shift, x, y, z.lo)).joined(Range::at(value_at(op, shift, x, y, z.hi)))
+}
+
+// The values over the ends of the second and of the third argument's range.
+#[tactic(auto, unfolding(crate::specs::ArithCorners::least_over_second, crate::specs::ArithCorners::greatest_over_second))]
+fn over_second(op: ArithOp, shift: u8, x: i64, y: Bounds, z: Bounds) -> Range
+    requires rule { IsTrue (has_rule op) }
+    requires shift { shift ≤ 15 }
+    requires first { unsigned_abs x < 2 ^ 32 }
+    requires second { IsSmall y }
+    requires third { IsSmall z }
+    requires divisor { HasDivisorsAtEnds op y z }
+    ensures lo { result.lo ≡ least_over_second op shift x y z }
+    ensures hi { result.hi ≡ greatest_over_second op shift x y z }
+{
+    over_third(op, shift, x, y.lo, z).joined(over_third(op, shift, x, y.hi, z))
+}
+
+// The values at all corners.
+#[tactic(auto, unfolding(crate::specs::ArithCorners::least_at_corners, crate::specs::ArithCorners::greatest_at_corners))]
+fn at_corners(op: ArithOp, shift: u8, x: Bounds, y: Bounds, z: Bounds) -> Range
+    requires rule { IsTrue (has_rule op) }
+    requires shift { shift ≤ 15 }
+    requires first { IsSmall x }
+    requires second { IsSmall y }
+    requires third { IsSmall z }
+    requires divisor { HasDivisorsAtEnds op y z }
+    ensures lo { result.lo ≡ least_at_corners op shift x y z }
+    ensures hi { result.hi ≡ greatest_at_corners op shift x y z }
+{
+    over_second(op, shift, x.lo, y, z).joined(over_second(op, shift, x.hi, y, z))
+}
+
+/// The range of an operation's value.
+pub(crate) fn range_of(op: ArithOp, shift: u8, x: Bounds, y: Bounds, z: Bounds) -> Range
+    requires rule { IsTrue (has_rule op) }
+    requires shift { shift ≤ 15 }
+    requires first { IsSmall x }
+    requires second { IsSmall y }
+    requires third { IsSmall z }
+    requires divisor { HasDivisorsAtEnds op y z }
+    ensures lo { result.lo ≡ least_among (arith_values op shift (three x y z)) }
+    ensures hi { result.hi ≡ greatest_among (arith_values op shift (three x y z)) }
+{
+    let range = at_corners(op, shift, x, y, z);
+    match op {
+        ArithOp::AbsDiff => range.turned(at_corners(ArithOp::Sub, 0, x, y, z)),
+        ArithOp::Abs => range.turned(ends(x)),
+        _ => range,
+    }
+}
+
+fn ends(b: Bounds) -> Range
+    ensures lo { result.lo ≡ int_min b.lo b.hi }
+    ensures hi { result.hi ≡ int_max b.lo b.hi }
+{
+    Range::at(i128::from(b.lo)).joined(Range::at(i128::from(b.hi)))
+}

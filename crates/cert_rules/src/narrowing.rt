@@ -1,0 +1,55 @@
+// The bounds of an operation of arithmetic as bounds of a part.
+
+ghost use Rattle.std.specs.Prelude.{◌≡◌, ◌≤◌, IsTrue, None, if◌then◌else◌};
+ghost use Rattle.cert_rules.specs.ArithCorners.{three};
+ghost use Rattle.cert_rules.specs.ArithRules.{arith_bounds, arith_may_divide_by_zero};
+ghost use Rattle.cert_rules.specs.ArithSoundness.{has_rule};
+ghost use Rattle.cert_rules.specs.ArithWide.{exact_bounds};
+ghost use Rattle.cert_rules.specs.Entries.{IsSmall, if_small};
+
+use crate::arith_ruling::{WideBounds, arith_bounds};
+use crate::bounds::Bounds;
+use mfx_arith::ArithOp;
+
+/// The least and the greatest number of all types, and what every error has to be below.
+const LEAST: i128 = -(1 << 31);
+
+const GREATEST: i128 = (1 << 32) - 1;
+
+const ERROR_CAP: i128 = 1 << 40;
+
+/// The bounds of an operation's value: None where its divisor may be 0, or where no part may have them.
+pub(crate) fn operation_bounds(
+    op: ArithOp,
+    shift: u8,
+    x: Bounds,
+    y: Bounds,
+    z: Bounds,
+) -> Option<Bounds>
+    requires rule { IsTrue (has_rule op) }
+    requires shift { shift ≤ 15 }
+    requires first { IsSmall x }
+    requires second { IsSmall y }
+    requires third { IsSmall z }
+    ensures { result
+        ≡ (if arith_may_divide_by_zero op (three x y z) then None else if_small (arith_bounds op shift (three x y z))) }
+{
+    let wide = arith_bounds(op, shift, x, y, z)?;
+    narrowed(wide)
+}
+
+/// Bounds, where some part may have them.
+#[tactic(auto, unfolding(crate::specs::Entries::is_small))]
+fn narrowed(b: WideBounds) -> Option<Bounds>
+    ensures { result ≡ if_small (exact_bounds b) }
+{
+    if LEAST <= b.lo && b.lo <= b.hi && b.hi <= GREATEST && 0 <= b.err && b.err < ERROR_CAP {
+        Some(Bounds {
+            lo: b.lo as i64,
+            hi: b.hi as i64,
+            err: b.err as i64,
+        })
+    } else {
+        None
+    }
+}
