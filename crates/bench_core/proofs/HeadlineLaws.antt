@@ -62,7 +62,7 @@ acceptance_given wires entries x h = none_rejected wires (first_rejected wires e
 certifies : (net cert : List ℕ) (network : NetData) (entries : List Bounds) → network_of net ≡ Ok network → certificate_of network.wires cert ≡ Ok entries → first_rejected network.wires entries ≡ None → IsCertified net cert
 certifies net cert network entries n c k =
     let complete = certificate_of-complete network.wires cert entries c in
-    let accepts = accepts_from_none_rejected network.wires entries (all_are_smooth network.wires) complete k in
+    let accepts = accepts_from_none_rejected network.wires entries (all_are_smooth network (network_of_valid net network n)) complete k in
     record {
       network = network;
       entries = entries;

@@ -17,7 +17,23 @@ const SMALL_RANGE: &str =
 
 const SHORT: &str = "cert 1\npart a 0 1000 0\n";
 
-const PRODUCT: &str = "net 1\nin a s16 0 1000\nwire s s16 = Mfx_Mul_s16s16_s16 a a\nout s\n";
+const REMAINDER: &str = "net 1\nin a s16 0 1000\nwire s s16 = Mfx_Mod_s16s16_s16 a a\nout s\n";
+
+const DOUBLE: &str = "net 1\nin x u16 0 1000\nwire y u16 = Mfx_Add_u16u16_u16 x x\nout y\n";
+
+const QUOTIENT: &str =
+    "net 1\nin x s16 -3 5\nin z s16 2 4\nwire p s32 = Mfx_Mul_s16s16_s32 x z\nwire q s16 = Mfx_Div_s16s16_s16 x z\nout p\nout q\n";
+
+const QUOTIENT_CERT: &str =
+    "cert 1\npart x -3 5 0\npart z 2 4 0\npart p -12 20 0\npart q -1 2 65536\n";
+
+const QUOTIENT_SMALL: &str =
+    "cert 1\npart x -3 5 0\npart z 2 4 0\npart p -12 20 0\npart q -1 2 65535\n";
+
+const BY_ZERO: &str =
+    "net 1\nin x s16 -9 9\nin z s16 -1 1\nwire q s16 = Mfx_Div_s16s16_s16 x z\nout q\n";
+
+const BY_ZERO_CERT: &str = "cert 1\npart x -9 9 0\npart z -1 1 0\npart q -9 9 65536\n";
 
 const NO_OUTPUT: &str =
     "net 1\nin a s16 0 1000\nin b s16.4 -160 160\nwire c s16 = Mfx_ConvertP2_s16_s16 b\nwire s s16 = Mfx_Add_s16s16_s16 a c\n";
@@ -35,6 +51,8 @@ const SHORT_ROW: &str = "a,b\n1,0\n2\n";
 const FROM_A_TOOL: &str =
     "\u{feff}\"time\",\"a\" ,b\r\n\r\n0.1, +5,-016\r\n0.2,007,32768\r\n0.3,1,1\r\n";
 
+const MARKED: &str = "\u{feff}\"time\",\"x\"\r\n\r\n0.1, +5\r\n0.2,007\r\n";
+
 const USAGE: &str =
     "usage: bench check NET CERT | run NET REC | audit NET CERT REC | propose NET | gen SEED ROWS\n";
 
@@ -51,7 +69,20 @@ fn files(alloc: Global) -> Result<Vec<Stored>, AllocError> {
         ("error", SMALL_ERROR),
         ("range", SMALL_RANGE),
         ("short", SHORT),
-        ("product", PRODUCT),
+        ("remainder", REMAINDER),
+        ("double", DOUBLE),
+        ("quotient", QUOTIENT),
+        ("quotient_cert", QUOTIENT_CERT),
+        ("quotient_small", QUOTIENT_SMALL),
+        ("by_zero", BY_ZERO),
+        ("by_zero_cert", BY_ZERO_CERT),
+        ("only_head", "x\n"),
+        ("no_x", "t\n1\n"),
+        ("twice_x", "x,x\n1,1\n"),
+        ("marked", MARKED),
+        ("decimal", "x\n1\n2\n12.5\n"),
+        ("large", "x\n1\n2\n70000\n"),
+        ("narrow", "t,x\n0,1\n1,2\n2\n"),
         ("no_output", NO_OUTPUT),
         ("rows", ROWS),
         ("beyond", BEYOND_RANGE),
@@ -98,10 +129,10 @@ fn answers_in_the_order_of_refusals(rt: HostRuntime) -> Result<(), Fail> {
             "short: refused\n",
         ),
         (
-            ["check", "product", "AC"].as_slice(),
+            ["check", "remainder", "AC"].as_slice(),
             3,
             "",
-            "product: not built\n",
+            "remainder: not built\n",
         ),
         (
             ["check", "no_output", "AC"].as_slice(),
@@ -131,6 +162,62 @@ fn answers_in_the_order_of_refusals(rt: HostRuntime) -> Result<(), Fail> {
             "row 2: b: out of type\n",
         ),
         (["run", "A", "none"].as_slice(), 4, "", "row 0: no header\n"),
+        (
+            ["check", "quotient", "quotient_cert"].as_slice(),
+            0,
+            "accepted\n",
+            "",
+        ),
+        (
+            ["check", "quotient", "quotient_small"].as_slice(),
+            6,
+            "",
+            "not accepted: q\n",
+        ),
+        (
+            ["check", "by_zero", "by_zero_cert"].as_slice(),
+            6,
+            "",
+            "not accepted: q\n",
+        ),
+        (["run", "double", "only_head"].as_slice(), 0, "y\n", ""),
+        (
+            ["run", "double", "none"].as_slice(),
+            4,
+            "",
+            "row 0: no header\n",
+        ),
+        (
+            ["run", "double", "no_x"].as_slice(),
+            4,
+            "",
+            "row 0: missing x\n",
+        ),
+        (
+            ["run", "double", "twice_x"].as_slice(),
+            4,
+            "",
+            "row 0: twice x\n",
+        ),
+        (["run", "double", "marked"].as_slice(), 0, "y\n10\n14\n", ""),
+        (
+            ["run", "double", "decimal"].as_slice(),
+            4,
+            "y\n2\n4\n",
+            "row 3: x: not a number\n",
+        ),
+        (
+            ["run", "double", "large"].as_slice(),
+            4,
+            "y\n2\n4\n",
+            "row 3: x: out of type\n",
+        ),
+        (
+            ["run", "double", "narrow"].as_slice(),
+            4,
+            "y\n2\n4\n",
+            "row 3: bad width\n",
+        ),
         (["check", "A"].as_slice(), 1, "", USAGE),
         (["--help"].as_slice(), 1, "", USAGE),
         (["run", "-x", "y"].as_slice(), 1, "", USAGE),
