@@ -2,7 +2,9 @@ use crate::{Bounds, rejected_part};
 use fx_core::Ty;
 use mfx_arith::{ArithOp, Variant};
 use net_model::first::ScaledOp;
-use net_model::{Block, Draft, Item, Kind, Name, NameFault, Network, PartNo, Wire, WireNo};
+use net_model::{
+    Block, Draft, Item, Kind, Name, NameFault, Network, PartNo, Wire, WireNo, read_network,
+};
 use std::alloc::Global;
 use std::test::Fail;
 
@@ -62,6 +64,28 @@ fn accepts_and_rejects(rt: HostRuntime) -> Result<(), Fail> {
     assert_eq!(rt; rejected_part(&net, &entries), Some(PartNo(2)));
     entries[2].err = 65536;
     entries[3].hi = 1009;
+    assert_eq!(rt; rejected_part(&net, &entries), Some(PartNo(3)));
+    Ok(())
+}
+
+// A quotient is rounded, so its error is one raw count at least.
+#[test]
+fn accepts_and_rejects_a_quotient(rt: HostRuntime) -> Result<(), Fail> {
+    let text =
+        b"net 1\nin x s16 -3 5\nin z s16 2 4\nwire p s32 = Mfx_Mul_s16s16_s32 x z\nwire q s16 = Mfx_Div_s16s16_s16 x z\nout p\nout q\n";
+    let net = read_network(rt.alloc(), text)?;
+    assert_eq!(rt; net.parts().len(), 4);
+    let mut entries = [
+        bounds(-3, 5, 0),
+        bounds(2, 4, 0),
+        bounds(-12, 20, 0),
+        bounds(-1, 2, 65536),
+    ];
+    assert_eq!(rt; rejected_part(&net, &entries), None);
+    entries[3].err = 65535;
+    assert_eq!(rt; rejected_part(&net, &entries), Some(PartNo(3)));
+    entries[3].err = 65536;
+    entries[1].lo = 0;
     assert_eq!(rt; rejected_part(&net, &entries), Some(PartNo(3)));
     Ok(())
 }
