@@ -8,4 +8,5 @@ pub mod ArithCorners
 pub mod ArithWide
 pub mod Acceptance
 pub mod Entries
+pub mod Proper
 pub mod Theorem

@@ -10,6 +10,9 @@ mod arith_ruling;
 mod arith_tests;
 mod arith_values;
 mod bounds;
+mod certificate;
+#[cfg(test)]
+mod certificate_tests;
 mod checking;
 mod limits;
 mod lookups;
@@ -22,6 +25,7 @@ mod tests;
 
 pub use arith_laws::law_of_arith_rules;
 pub use bounds::Bounds;
+pub use certificate::{BadBounds, Certificate};
 pub use checking::rejected_part;
 pub use limits::allowed;
 pub use promise::{acceptance_is_exact, certificates_hold};
