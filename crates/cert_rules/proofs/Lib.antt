@@ -28,3 +28,5 @@ pub mod Places
 pub mod AcceptedEntries
 pub mod TheoremProof
 pub mod AcceptanceLaws
+pub mod ArgumentSearch
+pub mod ArgumentLaw

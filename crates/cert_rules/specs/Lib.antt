@@ -9,4 +9,5 @@ pub mod ArithWide
 pub mod Acceptance
 pub mod Entries
 pub mod Proper
+pub mod Arguments
 pub mod Theorem

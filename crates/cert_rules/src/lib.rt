@@ -2,6 +2,9 @@
 // accepted certificate holds over every recording.
 #![tactic(auto)]
 
+#[cfg(test)]
+mod argument_tests;
+mod arguments;
 mod arith_errors;
 mod arith_laws;
 mod arith_ranges;
@@ -23,6 +26,7 @@ mod steps;
 #[cfg(test)]
 mod tests;
 
+pub use arguments::{argument, rules_read_their_arguments};
 pub use arith_laws::law_of_arith_rules;
 pub use bounds::Bounds;
 pub use certificate::{BadBounds, Certificate};

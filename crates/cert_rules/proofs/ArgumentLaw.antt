@@ -1,0 +1,168 @@
+-- The rule of a part depends on what it reads alone.
+use Rattle.std.proofs.Common.{◌≡◌, ℕ, zero, suc, ◌+◌, ◌<◌, ◌≤◌, Bool, true, false, cond, not, ◌&&◌, ◌||◌, ◌==◌, List, length, refl, sym, ap, ◌∙◌, arith, None, eq-or-lt_of_le, inl, inr, eq-eqb}
+use Rattle.mfx_arith.specs.declared.operation.ArithOp.{ArithOp}
+use Rattle.mfx_arith.specs.declared.operation.ArithOp.TheVariants.{Add, Sub, AbsDiff, Abs, Mul, Div, Mod, MulDiv, MulShRight, DivShLeft, Limit, Min, Max, RateLimiter}
+use Rattle.net_model.specs.declared.first.Points.{Points}
+use Rattle.net_model.specs.declared.first.ScaledOp.{ScaledOp}
+use Rattle.net_model.specs.declared.first.ScaledOp.TheVariants.{Convert}
+use Rattle.net_model.specs.declared.wires.Kind.{Kind}
+use Rattle.net_model.specs.declared.wires.Block.{Block}
+use Rattle.net_model.specs.declared.wires.Block.TheVariants.{Arith, Scaled}
+use Rattle.net_model.specs.declared.wires.Item.{Item}
+use Rattle.net_model.specs.declared.wires.Item.TheVariants.{Input, Const, Block as OfBlock}
+use Rattle.net_model.specs.declared.wires.Role.{Role}
+use Rattle.net_model.specs.declared.wires.Role.TheVariants.{Value}
+use Rattle.net_model.specs.declared.wires.Part.{Part}
+use Rattle.net_model.specs.declared.wires.Wire.{Wire}
+use Rattle.net_model.specs.Wires.{NetData, wire_at, argument_of, parts_of}
+use Rattle.net_model.specs.Validity.{IsValid}
+use Rattle.net_model.proofs.ValidityFacts.{argument_of-valid, get_or-parts_of, length-parts_of, value_part}
+use Rattle.net_meaning.specs.Blocks.{points_of}
+use Rattle.cert_rules.specs.declared.bounds.Bounds.{Bounds}
+use Rattle.cert_rules.specs.Ranges.{corner_values}
+use Rattle.cert_rules.specs.ArithCorners.{three}
+use Rattle.cert_rules.specs.ArithRules.{arith_arity, arith_bounds, arith_may_divide_by_zero, arith_values}
+use Rattle.cert_rules.specs.ArithSoundness.{has_rule}
+use Rattle.cert_rules.specs.Rules.{arguments_of, if_allowed, may_fail, proposed, rule_of, scaled_bounds}
+use Rattle.cert_rules.specs.Acceptance.{part_at}
+use Rattle.cert_rules.specs.Arguments.{AgreeFor, RulesReadTheirArguments, arity_of, is_among_first, reads, reads_at}
+
+-- ---- an operation's bounds depend on as many arguments as it has
+
+abbrev kept : ArithOp → (ℕ → Bounds) → ℕ → Bounds
+kept Abs given = three (given 0) (given 0) (given 0)
+kept MulDiv given = three (given 0) (given 1) (given 2)
+kept Limit given = three (given 0) (given 1) (given 2)
+kept RateLimiter given = three (given 0) (given 1) (given 2)
+kept other given = three (given 0) (given 1) (given 1)
+
+bounds_of_kept : (op : ArithOp) (shift : ℕ) (given : ℕ → Bounds) → arith_bounds op shift (kept op given) ≡ arith_bounds op shift given
+unfolding arith_bounds arith_values
+bounds_of_kept Add shift given = refl
+bounds_of_kept Sub shift given = refl
+bounds_of_kept AbsDiff shift given = refl
+bounds_of_kept Abs shift given = refl
+bounds_of_kept Mul shift given = refl
+bounds_of_kept Div shift given = refl
+bounds_of_kept Mod shift given = refl
+bounds_of_kept MulDiv shift given = refl
+bounds_of_kept MulShRight shift given = refl
+bounds_of_kept DivShLeft shift given = refl
+bounds_of_kept Limit shift given = refl
+bounds_of_kept Min shift given = refl
+bounds_of_kept Max shift given = refl
+bounds_of_kept RateLimiter shift given = refl
+
+divisor_of_kept : (op : ArithOp) (given : ℕ → Bounds) → arith_may_divide_by_zero op (kept op given) ≡ arith_may_divide_by_zero op given
+divisor_of_kept Div given = refl
+divisor_of_kept DivShLeft given = refl
+divisor_of_kept MulDiv given = refl
+divisor_of_kept other given = refl
+
+-- the first n arguments are the same
+abbrev Same : ℕ → (ℕ → Bounds) → (ℕ → Bounds) → Type 0
+Same n one other = (q : ℕ) → q < n → one q ≡ other q
+
+two_same : (one other : ℕ → Bounds) → Same 2 one other → three (one 0) (one 1) (one 1) ≡ three (other 0) (other 1) (other 1)
+two_same one other same =
+    ap (λ b. three b (one 1) (one 1)) (same 0 (omega arith)) ∙ ap (λ b. three (other 0) b b) (same 1 (omega arith))
+
+three_same : (one other : ℕ → Bounds) → Same 3 one other → three (one 0) (one 1) (one 2) ≡ three (other 0) (other 1) (other 2)
+three_same one other same =
+    ap (λ b. three b (one 1) (one 2)) (same 0 (omega arith)) ∙ ap (λ b. three (other 0) b (one 2)) (same 1 (omega arith)) ∙ ap (three (other 0) (other 1)) (same 2 (omega arith))
+
+kept_same : (op : ArithOp) (one other : ℕ → Bounds) → Same (arith_arity op) one other → kept op one ≡ kept op other
+kept_same Abs one other same = ap (λ b. three b b b) (same 0 (omega arith))
+kept_same MulDiv one other same = three_same one other same
+kept_same Limit one other same = three_same one other same
+kept_same RateLimiter one other same = three_same one other same
+kept_same Add one other same = two_same one other same
+kept_same Sub one other same = two_same one other same
+kept_same AbsDiff one other same = two_same one other same
+kept_same Mul one other same = two_same one other same
+kept_same Div one other same = two_same one other same
+kept_same Mod one other same = two_same one other same
+kept_same MulShRight one other same = two_same one other same
+kept_same DivShLeft one other same = two_same one other same
+kept_same Min one other same = two_same one other same
+kept_same Max one other same = two_same one other same
+
+bounds_same : (op : ArithOp) (shift : ℕ) (one other : ℕ → Bounds) → Same (arith_arity op) one other → arith_bounds op shift one ≡ arith_bounds op shift other
+bounds_same op shift one other same =
+    sym (bounds_of_kept op shift one) ∙ ap (arith_bounds op shift) (kept_same op one other same) ∙ bounds_of_kept op shift other
+
+divisor_same : (op : ArithOp) (one other : ℕ → Bounds) → Same (arith_arity op) one other → arith_may_divide_by_zero op one ≡ arith_may_divide_by_zero op other
+divisor_same op one other same =
+    sym (divisor_of_kept op one) ∙ ap (arith_may_divide_by_zero op) (kept_same op one other same) ∙ divisor_of_kept op other
+
+-- ---- and so do a form's with binary points
+
+scaled_of_first : (op : ScaledOp) (points : Points) (given : ℕ → Bounds) → scaled_bounds op points (λ q. given 0) ≡ scaled_bounds op points given
+unfolding scaled_bounds corner_values
+scaled_of_first Convert points given = refl
+
+scaled_same : (op : ScaledOp) (points : Points) (one other : ℕ → Bounds) → one 0 ≡ other 0 → scaled_bounds op points one ≡ scaled_bounds op points other
+scaled_same op points one other same =
+    sym (scaled_of_first op points one) ∙ ap (λ (b : Bounds). scaled_bounds op points (λ q. b)) same ∙ scaled_of_first op points other
+
+-- ---- the rule of a wire's value
+
+abbrev SameFor : Item → (ℕ → Bounds) → (ℕ → Bounds) → Type 0
+SameFor item one other = (b : Block) → item ≡ OfBlock b → Same (arity_of b) (arguments_of b one) (arguments_of b other)
+
+may_same : (item : Item) (one other : ℕ → Bounds) → SameFor item one other → may_fail item one ≡ may_fail item other
+may_same (Input lo hi) one other same = refl
+may_same (Const value) one other same = refl
+may_same (OfBlock (Arith op v x y z sh)) one other same =
+    ap (λ t. not (has_rule op) || t) (divisor_same op (arguments_of (Arith op v x y z sh) one) (arguments_of (Arith op v x y z sh) other) (same (Arith op v x y z sh) refl))
+may_same (OfBlock (Scaled op v x y)) one other same = refl
+
+proposed_same : (wires : List Wire) (kind : Kind) (item : Item) (one other : ℕ → Bounds) → SameFor item one other → proposed wires kind item one ≡ proposed wires kind item other
+unfolding proposed
+proposed_same wires kind (Input lo hi) one other same = refl
+proposed_same wires kind (Const value) one other same = refl
+proposed_same wires kind (OfBlock (Arith op v x y z sh)) one other same =
+    bounds_same op sh (arguments_of (Arith op v x y z sh) one) (arguments_of (Arith op v x y z sh) other) (same (Arith op v x y z sh) refl)
+proposed_same wires kind (OfBlock (Scaled Convert v x y)) one other same =
+    scaled_same Convert (points_of wires kind (Scaled Convert v x y)) (arguments_of (Scaled Convert v x y) one) (arguments_of (Scaled Convert v x y) other) (same (Scaled Convert v x y) refl 0 (omega arith))
+
+rule_same : (wires : List Wire) (i : ℕ) (one other : ℕ → Role → Bounds) → SameFor (wire_at wires i).item (λ w. one w Value) (λ w. other w Value) → rule_of wires i Value one ≡ rule_of wires i Value other
+unfolding rule_of
+rule_same wires i one other same =
+    let w = wire_at wires i in
+    ap (λ (t : Bool). cond t None (if_allowed w.kind Value (proposed wires w.kind w.item (λ k. one k Value)))) (may_same w.item (λ k. one k Value) (λ k. other k Value) same)
+    ∙ ap (λ (b : Bounds). cond (may_fail w.item (λ k. other k Value)) None (if_allowed w.kind Value b)) (proposed_same wires w.kind w.item (λ k. one k Value) (λ k. other k Value) same)
+
+-- ---- each argument of a block is a part that is read
+
+or-true : (a : Bool) → (a || true) ≡ true
+or-true true = refl
+or-true false = refl
+
+among : (b : Block) (n q : ℕ) → q < n → is_among_first b n (argument_of b q) ≡ true
+among b zero q h = absurd (omega arith)
+among b (suc n) q h =
+    let le : q ≤ n = omega arith in
+    elim (eq-or-lt_of_le le) [
+      inl same ↦ ap (λ t. is_among_first b n (argument_of b q) || t) (eq-eqb _ _ (ap (argument_of b) (sym same))) ∙ or-true _ |
+      inr less ↦ ap (λ t. t || argument_of b n == argument_of b q) (among b n q less)
+    ]
+
+reads_there : (wires : List Wire) (p a : ℕ) (b : Block) → part_at wires p ≡ value_part p → part_at wires a ≡ value_part a → (wire_at wires p).item ≡ OfBlock b → is_among_first b (arity_of b) a ≡ true → reads_at wires p a ≡ true
+unfolding reads_at
+reads_there wires p a b here there is e =
+    ap (λ (t : Part). reads (wire_at wires t.wire.0).item (part_at wires a)) here ∙ ap (reads (wire_at wires p).item) there ∙ ap (λ (t : Item). reads t (value_part a)) is ∙ ap (λ (t : Bool). t && true) e
+
+same_arguments : (net : NetData) → IsValid net → (p : ℕ) → p < length net.wires → (one other : ℕ → Role → Bounds) → AgreeFor net.wires p one other → SameFor (wire_at net.wires p).item (λ w. one w Value) (λ w. other w Value)
+same_arguments net valid p there one other agree b is q few =
+    let below : argument_of b q < p = argument_of-valid net p b valid there is q in
+    let in_wires : argument_of b q < length net.wires = omega arith in
+    let in_parts : argument_of b q < length (parts_of net.wires) = rw (length-parts_of net.wires) in_wires in
+    let here : part_at net.wires (argument_of b q) ≡ value_part (argument_of b q) = get_or-parts_of net.wires (argument_of b q) in_wires in
+    let read = reads_there net.wires p (argument_of b q) b (get_or-parts_of net.wires p there) here is (among b (arity_of b) q few) in
+    rw here at (agree (argument_of b q) in_parts read)
+
+pub rules_read_their_arguments : RulesReadTheirArguments
+rules_read_their_arguments net valid p h one other agree =
+    let there : p < length net.wires = rw (length-parts_of net.wires) at h in
+    rw (get_or-parts_of net.wires p there) (rule_same net.wires p one other (same_arguments net valid p there one other agree))
