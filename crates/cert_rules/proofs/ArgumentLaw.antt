@@ -1,5 +1,5 @@
 -- The rule of a part depends on what it reads alone.
-use Rattle.std.proofs.Common.{◌≡◌, ℕ, zero, suc, ◌+◌, ◌<◌, ◌≤◌, Bool, true, false, cond, not, ◌&&◌, ◌||◌, ◌==◌, List, length, refl, sym, ap, ◌∙◌, arith, None, eq-or-lt_of_le, inl, inr, eq-eqb}
+use Rattle.std.proofs.Common.{◌≡◌, ℕ, zero, suc, ◌<◌, ◌≤◌, Bool, true, false, cond, not, ◌&&◌, ◌||◌, ◌==◌, List, length, refl, sym, ap, ◌∙◌, arith, None, eq-or-lt_of_le, inl, inr, eq-eqb}
 use Rattle.mfx_arith.specs.declared.operation.ArithOp.{ArithOp}
 use Rattle.mfx_arith.specs.declared.operation.ArithOp.TheVariants.{Add, Sub, AbsDiff, Abs, Mul, Div, Mod, MulDiv, MulShRight, DivShLeft, Limit, Min, Max, RateLimiter}
 use Rattle.net_model.specs.declared.first.Points.{Points}
@@ -144,8 +144,8 @@ among b zero q h = absurd (omega arith)
 among b (suc n) q h =
     let le : q ≤ n = omega arith in
     elim (eq-or-lt_of_le le) [
-      inl same ↦ ap (λ t. is_among_first b n (argument_of b q) || t) (eq-eqb _ _ (ap (argument_of b) (sym same))) ∙ or-true _ |
-      inr less ↦ ap (λ t. t || argument_of b n == argument_of b q) (among b n q less)
+      | inl same ↦ ap (λ t. is_among_first b n (argument_of b q) || t) (eq-eqb _ _ (ap (argument_of b) (sym same))) ∙ or-true _
+      | inr less ↦ ap (λ t. t || argument_of b n == argument_of b q) (among b n q less)
     ]
 
 reads_there : (wires : List Wire) (p a : ℕ) (b : Block) → part_at wires p ≡ value_part p → part_at wires a ≡ value_part a → (wire_at wires p).item ≡ OfBlock b → is_among_first b (arity_of b) a ≡ true → reads_at wires p a ≡ true

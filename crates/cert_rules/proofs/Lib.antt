@@ -28,5 +28,6 @@ pub mod Places
 pub mod AcceptedEntries
 pub mod TheoremProof
 pub mod AcceptanceLaws
+pub mod ArgumentExamples
 pub mod ArgumentSearch
 pub mod ArgumentLaw

@@ -13,9 +13,9 @@ returns-then-left-eq0 c =
 
 pub loop-k-preserved : goal.loop-k-preserved
 loop-k-preserved c = elim c.if-reads_at.branch [
-    then-reads_at+else-left-eq0 w ↦ rw w.left-is (search-counted _ c.loop-k.k _ c.loop-k.left _ (below_parts _ c.loop-k.k _ c.parts-k-end.ensures.parts (omega arith)) (sym c.reads_at.ensures ∙ w.if-reads_at.true) (omega arith) c.loop-k.invariant) |
-    else-reads_at w ↦ rw w.left-is (search-skipped _ c.loop-k.k _ c.loop-k.left _ (below_parts _ c.loop-k.k _ c.parts-k-end.ensures.parts (omega arith)) (sym c.reads_at.ensures ∙ w.if-reads_at.false) c.loop-k.invariant)
-  ]
+  | then-reads_at+else-left-eq0 w ↦ rw w.left-is (search-counted _ c.loop-k.k _ c.loop-k.left _ (below_parts _ c.loop-k.k _ c.parts-k-end.ensures.parts (omega arith)) (sym c.reads_at.ensures ∙ w.if-reads_at.true) (omega arith) c.loop-k.invariant)
+  | else-reads_at w ↦ rw w.left-is (search-skipped _ c.loop-k.k _ c.loop-k.left _ (below_parts _ c.loop-k.k _ c.parts-k-end.ensures.parts (omega arith)) (sym c.reads_at.ensures ∙ w.if-reads_at.false) c.loop-k.invariant)
+]
 
 pub returns : goal.returns
 returns c =
