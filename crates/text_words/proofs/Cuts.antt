@@ -69,10 +69,10 @@ lines_from_some rest n some n_is =
 -- ---- words
 
 -- what is kept of the pieces of a line
-abbrev words_in : List (List ℕ) → List (List ℕ)
+abbrev pub words_in : List (List ℕ) → List (List ℕ)
 words_in parts = take_while (λ word. not (begins_comment word)) (filter (λ piece. not (is_empty piece)) parts)
 
-words_in-cons : (byte : ℕ) (bytes : List ℕ) (parts : List (List ℕ)) → eqb byte 35 ≡ false → words_in ((byte ∷ bytes) ∷ parts) ≡ (byte ∷ bytes) ∷ words_in parts
+pub words_in-cons : (byte : ℕ) (bytes : List ℕ) (parts : List (List ℕ)) → eqb byte 35 ≡ false → words_in ((byte ∷ bytes) ∷ parts) ≡ (byte ∷ bytes) ∷ words_in parts
 words_in-cons byte bytes parts word = take_while-cons (λ w. not (begins_comment w)) (byte ∷ bytes) (filter (λ piece. not (is_empty piece)) parts) ∙ ap (λ b. cond (not b) ((byte ∷ bytes) ∷ words_in parts) []) word
 
 words_in_comment : (bytes : List ℕ) (parts : List (List ℕ)) → words_in ((35 ∷ bytes) ∷ parts) ≡ []

@@ -3,6 +3,7 @@ use Rattle.std.proofs.Common.{◌≡◌, true, false, [], ◌∷◌, ◌++◌, r
 use Rattle.text_words.specs.Lines.{lines_from, lines_of, words_of}
 use Rattle.text_words.specs.Names.{is_name}
 use Rattle.text_words.specs.Numbers.{number_of, held}
+use Rattle.text_words.specs.Printed.{is_word, word_lines}
 
 -- ---- lines
 
@@ -121,3 +122,21 @@ no_name_with_dash = refl
 no_empty_name : is_name [] ≡ false
 unfolding is_name
 no_empty_name = refl
+
+-- ---- printing
+
+two_lines : word_lines ((codes "net" ∷ codes "1" ∷ []) ∷ (codes "out" ∷ []) ∷ []) ≡ codes "net 1" ++ 10 ∷ codes "out" ++ 10 ∷ []
+two_lines = refl
+
+-- inside a word `#` is printed
+word_with_hash : is_word (codes "a#b") ≡ true
+word_with_hash = refl
+
+no_word_of_comment : is_word (codes "#b") ≡ false
+no_word_of_comment = refl
+
+no_word_with_space : is_word (codes "a b") ≡ false
+no_word_with_space = refl
+
+no_empty_word : is_word [] ≡ false
+no_empty_word = refl
