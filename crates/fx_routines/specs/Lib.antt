@@ -1,0 +1,5 @@
+pub mod Rows
+pub mod Variants
+pub mod Names
+pub mod Reading
+pub mod Laws

@@ -1,0 +1,60 @@
+-- The rows of the table of names.
+use Rattle.std.specs.Prelude.{◌≡◌, ℕ, Bool, true, false, List, [], slice_index_or}
+use denote.Enum.Bare.{sameb}
+use Rattle.fx_routines.specs.contracts.operation.ArithOp as arith
+use Rattle.fx_routines.specs.contracts.operation.ScaledOp as scaled
+use Rattle.fx_routines.specs.declared.operation.ArithOp.{ArithOp}
+use Rattle.fx_routines.specs.declared.operation.ScaledOp.{ScaledOp}
+use Rattle.fx_routines.specs.declared.table.Part.{Part}
+use Rattle.fx_routines.specs.declared.table.Routine.{Routine}
+use Rattle.fx_routines.specs.declared.table.Routine.TheVariants.{Arith, Scaled, NotBuilt}
+use Rattle.fx_routines.specs.declared.table.TheConstants.{TABLE}
+
+-- a row: a routine, the front of its names, and the parts behind that
+abbrev pub Row : Type 0
+Row = Routine × record { now : List ℕ } × record { now : List Part }
+
+-- the routine of a row
+abbrev pub routine_of : Row → Routine
+routine_of row = row.0
+
+-- the front of a row's names
+abbrev pub front_of : Row → List ℕ
+front_of row = row.1.now
+
+-- the parts of a row's names
+abbrev pub parts_of : Row → List Part
+parts_of row = row.2.now
+
+-- all rows
+unfoldable pub rows : List Row
+rows = TABLE
+
+-- the row at a place of the table
+abbrev pub row_at : ℕ → Row
+row_at i = slice_index_or rows i (NotBuilt, record { now = [] }, record { now = [] })
+
+-- x stands at the place of the list
+pub record IsAt {A : Type 0} (xs : List A) (place : ℕ) (x : A) : Type 0 where
+  pub is : x ≡ slice_index_or xs place x
+
+-- both are one operation of arithmetic
+abbrev pub same_arith : ArithOp → ArithOp → Bool
+same_arith = sameb arith.the_type
+
+-- both are one operation with binary points
+abbrev pub same_scaled : ScaledOp → ScaledOp → Bool
+same_scaled = sameb scaled.the_type
+
+-- both are one routine
+abbrev pub same_routine : Routine → Routine → Bool
+same_routine (Arith a) (Arith b) = same_arith a b
+same_routine (Scaled a) (Scaled b) = same_scaled a b
+same_routine NotBuilt NotBuilt = true
+same_routine a b = false
+
+-- the routine is built
+abbrev pub is_built : Routine → Bool
+is_built (Arith op) = true
+is_built (Scaled op) = true
+is_built NotBuilt = false

@@ -1,0 +1,19 @@
+// The routines by name: one table of all names, which routine a word names, which types each one
+// takes, and the name of a routine.
+#![tactic(auto)]
+
+mod fitting;
+mod laws;
+mod operation;
+mod reading;
+mod table;
+#[cfg(test)]
+mod tests;
+mod writing;
+
+pub use crate::fitting::takes;
+pub use crate::laws::law_of_names;
+pub use crate::operation::{ArithOp, ScaledOp, Variant};
+pub use crate::reading::routine_named;
+pub use crate::table::{Class, Part, ROWS, Routine, Row, TABLE};
+pub use crate::writing::{push_name, type_word};

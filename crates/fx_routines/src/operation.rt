@@ -1,0 +1,105 @@
+// The operations of the routines, and the types of one.
+
+ghost use Rattle.std.specs.Prelude.{◌≡◌, ◌↔◌, IfSome, IsSome};
+ghost use Rattle.fx_core.specs.Types.{width_of};
+ghost use Rattle.fx_routines.specs.Variants.{variant};
+
+use fx_core::Ty;
+
+/// An operation of Mfx arithmetic, on raw counts. The arguments are `x`, `y`, `z` in their order;
+/// each answer is rounded toward zero and saturated to the output's type.
+#[derive(Clone, Copy, Debug, PartialEq, Eq)]
+pub enum ArithOp {
+    /// The sum `x + y`.
+    Add,
+    /// The difference `x - y`.
+    Sub,
+    /// The distance `|x - y|`.
+    AbsDiff,
+    /// The absolute value `|x|`.
+    Abs,
+    /// The product `x * y`.
+    Mul,
+    /// The quotient `x / y`.
+    Div,
+    /// What is left of `x` by the quotient `x / y` toward zero: it has the sign of `x`. 0 where `y`
+    /// is 0.
+    Mod,
+    /// The product over a third, `x * y / z`.
+    MulDiv,
+    /// The product over two to the power of the shift, `x * y / 2^shift`.
+    MulShRight,
+    /// The quotient `x * 2^shift / y`.
+    DivShLeft,
+    /// `x` held between `y`, below, and `z`, above; `z` where `y` is above it.
+    Limit,
+    /// The lesser of `x` and `y`.
+    Min,
+    /// The greater of `x` and `y`.
+    Max,
+    /// `x` held to at most `z` away from the old value `y`.
+    RateLimiter,
+}
+
+/// An operation of Mfx on numbers with binary points. `a`, `b` and `c` are the points of `x`, of `y`
+/// and of the output; each answer is rounded toward zero and saturated to the output's type.
+#[derive(Clone, Copy, Debug, PartialEq, Eq)]
+pub enum ScaledOp {
+    /// The number `x` at another point, `x * 2^(c-a)`.
+    Convert,
+    /// The sum `x * 2^(c-a) + y * 2^(c-b)`.
+    Add,
+    /// The difference `x * 2^(c-a) - y * 2^(c-b)`.
+    Sub,
+    /// The distance `|x * 2^(c-a) - y * 2^(c-b)|`.
+    AbsDiff,
+    /// The product `x * y * 2^(c-a-b)`.
+    Mul,
+    /// The quotient `x * 2^(c+b-a) / y`.
+    Div,
+}
+
+/// The types of a routine: of its first input, its second input and its output. Where there is no
+/// such input or output, the type of the first input stands for it. The inputs of arithmetic have
+/// one width.
+#[derive(Clone, Copy, Debug, PartialEq, Eq)]
+pub struct Variant {
+    pub x: Ty,
+    pub y: Ty,
+    pub o: Ty,
+}
+
+impl Variant {
+    /// The variant of these types, and None exactly where the widths of `x` and `y` differ.
+    pub fn new(x: Ty, y: Ty, o: Ty) -> Option<Variant>
+        ensures one_width { IsSome result ↔ (width_of x ≡ width_of y) }
+        ensures types { IfSome result (λ v. v ≡ variant x y o) }
+    {
+        if x.width() == y.width() {
+            Some(Variant { x, y, o })
+        } else {
+            None
+        }
+    }
+
+    /// The type of the first input.
+    pub fn x(self) -> Ty
+        ensures { result ≡ self.x }
+    {
+        self.x
+    }
+
+    /// The type of the second input.
+    pub fn y(self) -> Ty
+        ensures { result ≡ self.y }
+    {
+        self.y
+    }
+
+    /// The type of the output.
+    pub fn o(self) -> Ty
+        ensures { result ≡ self.o }
+    {
+        self.o
+    }
+}
