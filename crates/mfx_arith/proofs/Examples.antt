@@ -1,13 +1,11 @@
 -- Worked values of the operations: each computes.
-use Rattle.std.proofs.Common.{◌≡◌, pos, negsuc, refl, codes}
+use Rattle.std.proofs.Common.{◌≡◌, pos, negsuc, refl}
 use Rattle.fx_fraction.specs.Fraction.{whole, plus, minus, times, divided, quotient, lesser, greater, absolute, is_zero}
 use Rattle.fx_core.specs.declared.word_type.Ty.TheVariants.{U8, S8, U16, S16, U32, S32}
 use Rattle.fx_core.specs.Rounding.{rounded}
-use Rattle.mfx_arith.specs.declared.operation.ArithOp.TheVariants.{Add, Sub, AbsDiff, Abs, Mul, Div, Mod, MulDiv, MulShRight, DivShLeft, Limit, Min, Max, RateLimiter}
+use Rattle.fx_routines.specs.declared.operation.ArithOp.TheVariants.{Add, Sub, AbsDiff, Abs, Mul, Div, Mod, MulDiv, MulShRight, DivShLeft, Limit, Min, Max, RateLimiter}
 use Rattle.mfx_arith.specs.Formulas.{remainder}
 use Rattle.mfx_arith.specs.Calls.{arith_value, value_in}
-use Rattle.mfx_arith.specs.Operations.{variant}
-use Rattle.mfx_arith.specs.Names.{routine_name}
 
 -- a sum beyond an end of the output gives that end, and fits a wider one
 sum_of_bytes_in_a_byte : arith_value Add U8 (pos 200) (pos 100) (pos 0) 0 ≡ pos 255
@@ -110,35 +108,3 @@ rise_of_three = refl
 fall_of_three : arith_value RateLimiter U8 (pos 0) (pos 100) (pos 3) 0 ≡ pos 97
 unfolding arith_value value_in lesser greater plus minus whole rounded
 fall_of_three = refl
-
--- names
-name_of_a_sum : routine_name Add (variant U8 U8 U16) ≡ codes "Mfx_Add_u8u8_u16"
-unfolding routine_name
-name_of_a_sum = refl
-
--- the third number has the type of the second
-name_of_a_product_over_a_third : routine_name MulDiv (variant S32 U32 S8) ≡ codes "Mfx_MulDiv_s32u32u32_s8"
-unfolding routine_name
-name_of_a_product_over_a_third = refl
-
--- a shift stands as `u8`
-name_of_a_shifted_product : routine_name MulShRight (variant S16 U16 S16) ≡ codes "Mfx_MulShRight_s16u16u8_s16"
-unfolding routine_name
-name_of_a_shifted_product = refl
-
-name_of_a_shifted_quotient : routine_name DivShLeft (variant S16 U16 S32) ≡ codes "Mfx_DivShLeft_s16u16u8_s32"
-unfolding routine_name
-name_of_a_shifted_quotient = refl
-
-name_of_an_absolute_value : routine_name Abs (variant S8 S8 U8) ≡ codes "Mfx_Abs_s8_u8"
-unfolding routine_name
-name_of_an_absolute_value = refl
-
--- one type stands once
-name_of_a_limit : routine_name Limit (variant S16 S16 S16) ≡ codes "Mfx_Limit_s16"
-unfolding routine_name
-name_of_a_limit = refl
-
-name_of_a_rate_limiter : routine_name RateLimiter (variant U16 U16 U16) ≡ codes "Mfx_RateLimiter_u16"
-unfolding routine_name
-name_of_a_rate_limiter = refl

@@ -1,3 +1,3 @@
 pub mod Examples
-pub mod NameLaws
+pub mod TypesTaken
 pub mod WholeNumbers

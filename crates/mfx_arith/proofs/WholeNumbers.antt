@@ -12,7 +12,7 @@ use Rattle.fx_core.specs.Types.{greatest_of, least_of, saturated}
 use Rattle.fx_core.specs.Rounding.{power, rounded}
 use Rattle.fx_core.specs.Values.{rounded_fraction}
 use Rattle.fx_core.proofs.RoundingLaws.{rounded_by_one}
-use Rattle.mfx_arith.specs.declared.operation.ArithOp.TheVariants.{Add, Sub, AbsDiff, Abs, Mul, Div, Mod, MulDiv, MulShRight, DivShLeft, Limit, Min, Max, RateLimiter}
+use Rattle.fx_routines.specs.declared.operation.ArithOp.TheVariants.{Add, Sub, AbsDiff, Abs, Mul, Div, Mod, MulDiv, MulShRight, DivShLeft, Limit, Min, Max, RateLimiter}
 use Rattle.mfx_arith.specs.Formulas.{remainder}
 use Rattle.mfx_arith.specs.Calls.{arith_value, value_in}
 use Rattle.mfx_arith.specs.Integers.{quotient_in, whole_in, whole_remainder}
@@ -22,19 +22,19 @@ use Rattle.mfx_arith.specs.Integers.{quotient_in, whole_in, whole_remainder}
 times_one : (x : ℤ) → x *ℤ pos 1 ≡ x
 times_one x = omega (arith, ints)
 
-plus-whole : (x y : ℤ) → plus (whole x) (whole y) ≡ whole (x +ℤ y)
+pub plus-whole : (x y : ℤ) → plus (whole x) (whole y) ≡ whole (x +ℤ y)
 unfolding plus whole
 plus-whole x y = ap whole (ap₂ (λ s t. s +ℤ t) (times_one x) (times_one y))
 
-minus-whole : (x y : ℤ) → minus (whole x) (whole y) ≡ whole (x -ℤ y)
+pub minus-whole : (x y : ℤ) → minus (whole x) (whole y) ≡ whole (x -ℤ y)
 unfolding minus whole
 minus-whole x y = ap whole (ap₂ (λ s t. s -ℤ t) (times_one x) (times_one y))
 
-absolute-whole : (x : ℤ) → absolute (whole x) ≡ whole (pos (unsigned_abs x))
+pub absolute-whole : (x : ℤ) → absolute (whole x) ≡ whole (pos (unsigned_abs x))
 unfolding absolute whole
 absolute-whole x = refl
 
-times-whole : (x y : ℤ) → times (whole x) (whole y) ≡ whole (x *ℤ y)
+pub times-whole : (x y : ℤ) → times (whole x) (whole y) ≡ whole (x *ℤ y)
 unfolding times whole
 times-whole x y = refl
 
@@ -45,7 +45,7 @@ chosen x y false true e f = refl
 chosen x y true true e f = absurd (omega (arith, ints, e, f))
 chosen x y false false e f = absurd (omega (arith, ints, e, f))
 
-lesser-whole : (x y : ℤ) → lesser (whole x) (whole y) ≡ whole (int_min x y)
+pub lesser-whole : (x y : ℤ) → lesser (whole x) (whole y) ≡ whole (int_min x y)
 unfolding lesser whole
 lesser-whole x y = ap₂ (λ s t. if int_le s t then whole x else whole y) (times_one x) (times_one y) ∙ chosen x y (int_le x y) (int_lt y x) refl refl
 
@@ -55,12 +55,12 @@ chosen_other x y false true e f = refl
 chosen_other x y true true e f = absurd (omega (arith, ints, e, f))
 chosen_other x y false false e f = absurd (omega (arith, ints, e, f))
 
-greater-whole : (x y : ℤ) → greater (whole x) (whole y) ≡ whole (int_max x y)
+pub greater-whole : (x y : ℤ) → greater (whole x) (whole y) ≡ whole (int_max x y)
 unfolding greater whole
 greater-whole x y = ap₂ (λ s t. if int_le s t then whole y else whole x) (times_one x) (times_one y) ∙ chosen_other x y (int_le x y) (int_lt y x) refl refl
 
 -- a whole number is its own rounding
-rounded-whole : (x : ℤ) → rounded_fraction Zero (whole x) ≡ x
+pub rounded-whole : (x : ℤ) → rounded_fraction Zero (whole x) ≡ x
 unfolding whole
 rounded-whole x = rounded_by_one Zero x
 
@@ -117,12 +117,12 @@ rate_limiter_is t x y z shift = ap (value_in t None) (ap₂ lesser (plus-whole y
 -- ---- quotients
 
 -- a quotient of whole numbers, and a fraction of them
-divided-whole : (n d : ℤ) → divided (whole n) (whole d) ≡ quotient n d
+pub divided-whole : (n d : ℤ) → divided (whole n) (whole d) ≡ quotient n d
 unfolding divided whole
 divided-whole n d = ap₂ quotient (times_one n) (times_one d)
 
 -- the sign of the divisor moves to the dividend
-int_div-negsuc : (n : ℤ) (k : ℕ) → int_div (neg_ℤ n) (pos (suc k)) ≡ int_div n (negsuc k)
+pub int_div-negsuc : (n : ℤ) (k : ℕ) → int_div (neg_ℤ n) (pos (suc k)) ≡ int_div n (negsuc k)
 int_div-negsuc (pos zero) k = rw zero-div refl
 int_div-negsuc (pos (suc n)) k = refl
 int_div-negsuc (negsuc n) k = refl
@@ -134,7 +134,7 @@ rounded-quotient n (pos zero) h = absurd (h refl)
 rounded-quotient n (pos (suc k)) h = refl
 rounded-quotient n (negsuc k) h = int_div-negsuc n k
 
-rounded-divided : (n d : ℤ) → (d ≡ pos 0 → ⊥) → rounded_fraction Zero (divided (whole n) (whole d)) ≡ int_div n d
+pub rounded-divided : (n d : ℤ) → (d ≡ pos 0 → ⊥) → rounded_fraction Zero (divided (whole n) (whole d)) ≡ int_div n d
 rounded-divided n d h = ap (rounded_fraction Zero) (divided-whole n d) ∙ rounded-quotient n d h
 
 -- a quotient by 0 is an end of the type, and another one is the quotient toward zero

@@ -5,7 +5,7 @@ use Rattle.fx_core.specs.Types.{greatest_of, least_of, saturated}
 use Rattle.fx_core.specs.Values.{unsaturated}
 use Rattle.fx_core.specs.declared.quotient.Mode.TheVariants.{Zero}
 use Rattle.fx_core.specs.declared.word_type.Ty.{Ty}
-use Rattle.mfx_arith.specs.declared.operation.ArithOp.{ArithOp}
+use Rattle.fx_routines.specs.declared.operation.ArithOp.{ArithOp}
 use Rattle.mfx_arith.specs.Formulas.{arith_formula, quotient_of}
 
 -- three whole numbers as arguments

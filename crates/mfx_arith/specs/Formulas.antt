@@ -5,8 +5,8 @@ use Rattle.fx_fraction.specs.Fraction.{Fraction, whole, plus, minus, times, divi
 use Rattle.fx_core.specs.Rounding.{power}
 use Rattle.fx_core.specs.Values.{rounded_fraction}
 use Rattle.fx_core.specs.declared.quotient.Mode.TheVariants.{Zero}
-use Rattle.mfx_arith.specs.declared.operation.ArithOp.{ArithOp}
-use Rattle.mfx_arith.specs.declared.operation.ArithOp.TheVariants.{Add, Sub, AbsDiff, Abs, Mul, Div, Mod, MulDiv, MulShRight, DivShLeft, Limit, Min, Max, RateLimiter}
+use Rattle.fx_routines.specs.declared.operation.ArithOp.{ArithOp}
+use Rattle.fx_routines.specs.declared.operation.ArithOp.TheVariants.{Add, Sub, AbsDiff, Abs, Mul, Div, Mod, MulDiv, MulShRight, DivShLeft, Limit, Min, Max, RateLimiter}
 
 -- what is left of f when g is taken from it as often as their quotient toward zero says, and 0 where g is 0
 unfoldable pub remainder : Fraction → Fraction → Fraction

@@ -2,5 +2,3 @@ pub mod Operations
 pub mod Formulas
 pub mod Calls
 pub mod Integers
-pub mod Names
-pub mod NameParts

@@ -3,15 +3,10 @@ use Rattle.std.specs.Prelude.{◌≡◌, ℤ, List, [], ◌∷◌}
 use Rattle.fx_core.specs.Types.{Holds, width_of}
 use Rattle.fx_core.specs.declared.word_type.Ty.{Ty}
 use Rattle.fx_core.specs.declared.word_type.Ty.TheVariants.{U8, S8, U16, S16, U32, S32}
-use Rattle.mfx_arith.specs.declared.operation.ArithOp.{ArithOp}
-use Rattle.mfx_arith.specs.declared.operation.ArithOp.TheVariants.{Abs, MulDiv, Limit, Min, Max, RateLimiter}
-use Rattle.mfx_arith.specs.declared.operation.Variant.{Variant}
-use Rattle.mfx_arith.specs.declared.shapes.Shape.{Shape}
-use Rattle.mfx_arith.specs.declared.shapes.Shape.TheVariants.{OneInput, OneType}
-
--- the types of a routine, in the order of its name
-abbrev pub variant : Ty → Ty → Ty → Variant
-variant x y o = record { x = x; y = y; o = o }
+use Rattle.fx_routines.specs.declared.operation.ArithOp.{ArithOp}
+use Rattle.fx_routines.specs.declared.operation.ArithOp.TheVariants.{Abs, MulDiv, Limit, Min, Max, RateLimiter}
+use Rattle.fx_routines.specs.declared.operation.Variant.{Variant}
+pub use Rattle.fx_routines.specs.Variants.{variant}
 
 -- the two inputs have one width
 abbrev pub HasOneWidth : Variant → Type 0
@@ -33,12 +28,6 @@ Takes Min v = HasOneType v
 Takes Max v = HasOneType v
 Takes RateLimiter v = HasOneType v
 Takes other v = HasOneWidth v
-
--- the same by the shape of the operation's types
-abbrev pub Fits : Shape → Variant → Type 0
-Fits OneInput v = HasOneInput v
-Fits OneType v = HasOneType v
-Fits other v = HasOneWidth v
 
 -- the unsigned type of a type's width
 abbrev pub unsigned_of : Ty → Ty

@@ -6,10 +6,10 @@ ghost use Rattle.mfx_arith.specs.Calls.{arith_value};
 ghost use Rattle.mfx_arith.specs.Operations.{HasArguments, Takes, variant};
 
 use crate::limits::{limit, max, min, rate_limiter};
-use crate::operation::{ArithOp, Variant};
 use crate::quotients::{div, div_sh_left, modulo, mul_div};
 use crate::sums::{abs, abs_diff, add, mul, mul_sh_right, sub};
 use fx_core::{FxInt, Ty};
+use fx_routines::{ArithOp, Variant};
 use num_traits::cast;
 
 // What a routine is given. Where a type has one of the numbers, the word of that type stands for

@@ -5,8 +5,8 @@ ghost use Rattle.mfx_arith.specs.Calls.{arith_value};
 ghost use Rattle.mfx_arith.specs.Operations.{unsigned_of};
 
 use crate::integers::exact;
-use crate::operation::ArithOp;
 use fx_core::FxInt;
+use fx_routines::ArithOp;
 
 /// The lesser of `x` and `y`.
 #[tactic(auto, using(crate::proofs::WholeNumbers::min_is))]

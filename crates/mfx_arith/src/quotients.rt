@@ -5,8 +5,8 @@ ghost use Rattle.fx_core.specs.Types.{width_of};
 ghost use Rattle.mfx_arith.specs.Calls.{arith_value};
 
 use crate::integers::exact;
-use crate::operation::ArithOp;
 use fx_core::FxInt;
+use fx_routines::ArithOp;
 
 /// The quotient `x / y`, rounded toward zero and saturated. Where `y` is 0, it is the greatest
 /// number of the output for an `x` of at least 0, else the least.

@@ -5,8 +5,8 @@ ghost use Rattle.fx_core.specs.Types.{width_of};
 ghost use Rattle.mfx_arith.specs.Calls.{arith_value};
 
 use crate::integers::exact;
-use crate::operation::ArithOp;
 use fx_core::FxInt;
+use fx_routines::ArithOp;
 
 /// The sum `x + y`, saturated.
 #[tactic(auto, using(crate::proofs::WholeNumbers::add_is))]
