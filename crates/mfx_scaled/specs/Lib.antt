@@ -1,0 +1,4 @@
+pub mod Formulas
+pub mod Operations
+pub mod Calls
+pub mod Counts
