@@ -1,9 +1,6 @@
 mod DraftLemmas
 mod NumberingLemmas
-mod RoutineLemmas
+mod NameLemmas
 pub mod BuiltFacts
 pub mod ValidityFacts
-pub mod TextExamples
-pub mod HeldNumbers
-pub mod GoodLines
-pub mod ReadingLaw
+pub mod TestedDrafts

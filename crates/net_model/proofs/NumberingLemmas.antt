@@ -11,7 +11,7 @@ use Rattle.net_model.specs.declared.wires.Role.{Role}
 use Rattle.net_model.specs.declared.wires.Role.TheVariants.{Value}
 use Rattle.net_model.specs.declared.wires.Part.{Part}
 use Rattle.net_model.specs.Wires.{wire_at, no_wire, is_input, with_input, inputs_from, inputs_of, parts_from, parts_of, place_in, part_number}
-use Rattle.net_model.specs.Faults.{is_part}
+use Rattle.net_model.specs.Wires.{is_part}
 use Rattle.net_model.proofs.ValidityFacts.{parts_from-cons, length-parts_of, place_in-parts_of, part_number-is}
 
 -- the wires from wire i on are wire i and those behind it

@@ -6,11 +6,12 @@ use Rattle.std.proofs.lemmas.Bool.{and_parts}
 use Rattle.std.proofs.lemmas.Int.{ints}
 use Rattle.text_words.specs.Names.{is_name}
 use Rattle.fx_core.specs.declared.word_type.Ty.{Ty}
-use Rattle.mfx_arith.specs.declared.operation.ArithOp.{ArithOp}
-use Rattle.mfx_arith.specs.declared.operation.ArithOp.TheVariants.{Abs, MulDiv, Limit, Min, Max, RateLimiter}
-use Rattle.mfx_arith.specs.declared.operation.Variant.{Variant}
+use Rattle.fx_routines.specs.declared.operation.ArithOp.{ArithOp}
+use Rattle.fx_routines.specs.declared.operation.ArithOp.TheVariants.{Abs, MulDiv, Limit, Min, Max, RateLimiter}
+use Rattle.fx_routines.specs.declared.operation.Variant.{Variant}
 use Rattle.mfx_arith.specs.Operations.{Takes, argument_types}
-use Rattle.net_model.specs.declared.first.ScaledOp.{ScaledOp}
+use Rattle.fx_routines.specs.declared.operation.ScaledOp.{ScaledOp}
+use Rattle.fx_routines.specs.declared.operation.ScaledOp.TheVariants.{Convert}
 use Rattle.net_model.specs.declared.wires.WireNo.{WireNo}
 use Rattle.net_model.specs.declared.wires.Kind.{Kind}
 use Rattle.net_model.specs.declared.wires.Kind.TheVariants.{Num, Truth}
@@ -23,8 +24,9 @@ use Rattle.net_model.specs.declared.wires.Role.{Role}
 use Rattle.net_model.specs.declared.wires.Role.TheVariants.{Value}
 use Rattle.net_model.specs.declared.wires.Part.{Part}
 use Rattle.net_model.specs.Wires.{NetData, wire_at, no_wire, kind_least, kind_greatest, point_of, argument_of, is_input, roles_of, parts_from, parts_of, no_part, place_in, has_role, part_number}
-use Rattle.net_model.specs.Built.{is_built, is_built_ty, is_shift}
-use Rattle.net_model.specs.Validity.{is_good_kind, kind_holds, is_number_of, is_argument, is_given, is_good_block, is_good_item, is_good_wire, are_good_from, are_distinct, are_distinct_numbers, is_valid, IsValid}
+use Rattle.net_model.specs.Built.{is_built, is_shift, takes_scaled}
+use Rattle.mfx_scaled.specs.Operations.{argument_types as scaled_types}
+use Rattle.net_model.specs.Validity.{is_good_kind, kind_holds, is_number_of, type_read, is_earlier, is_given, reads_earlier, are_given, is_built_item, item_reads_earlier, item_agrees, item_in_range, is_good_wire, are_good_from, are_distinct, are_distinct_numbers, is_valid, IsValid}
 use Rattle.net_model.proofs.BuiltFacts.{same_ty-true, takes_from_test}
 
 -- the conditions, one by one
@@ -70,23 +72,40 @@ good_from wires (w ∷ rest) i (suc k) h lt =
 pub good_wire-valid : (net : NetData) (i : ℕ) → IsValid net → i < length net.wires → is_good_wire net.wires i (wire_at net.wires i) ≡ true
 good_wire-valid net i h lt = let e : 0 + i ≡ i = omega arith in rw e at (good_from net.wires net.wires 0 i ((conditions net h).good) lt)
 
+-- a good wire, test by test
+pub record IsGoodWire (wires : List Wire) (i : ℕ) (name : List ℕ) (kind : Kind) (item : Item) : Type 0 where
+  pub named : is_name name ≡ true
+  pub built : is_built_item item ≡ true
+  pub earlier : item_reads_earlier i item ≡ true
+  pub agreed : item_agrees wires kind item ≡ true
+  pub good_kind : is_good_kind kind ≡ true
+  pub in_range : item_in_range kind item ≡ true
+
+good_wire : (wires : List Wire) (i : ℕ) (w : Wire) → is_good_wire wires i w ≡ true → IsGoodWire wires i w.name w.kind w.item
+good_wire wires i w h =
+    let h1 = and_parts _ _ h in
+    let h2 = and_parts _ _ h1.0 in
+    let h3 = and_parts _ _ h2.0 in
+    let h4 = and_parts _ _ h3.0 in
+    let h5 = and_parts _ _ h4.0 in
+    record { named = h5.0; built = h5.1; earlier = h4.1; agreed = h3.1; good_kind = h2.1; in_range = h1.1 }
+
+pub name_of_good : (wires : List Wire) (i : ℕ) (w : Wire) → is_good_wire wires i w ≡ true → is_name w.name ≡ true
+name_of_good wires i w h = (good_wire wires i w h).named
+
 -- what is known of a wire whose item is known
-pub good_item-valid : (net : NetData) (i : ℕ) (item : Item) → IsValid net → i < length net.wires → (wire_at net.wires i).item ≡ item → is_good_item net.wires i (wire_at net.wires i).kind item ≡ true
+pub good_item-valid : (net : NetData) (i : ℕ) (item : Item) → IsValid net → i < length net.wires → (wire_at net.wires i).item ≡ item → IsGoodWire net.wires i (wire_at net.wires i).name (wire_at net.wires i).kind item
 good_item-valid net i item h lt e =
-    subst (λ (t : Item). is_good_item net.wires i (wire_at net.wires i).kind t ≡ true) e ((and_parts _ _ (good_wire-valid net i h lt)).1)
+    subst (λ (t : Item). IsGoodWire net.wires i (wire_at net.wires i).name (wire_at net.wires i).kind t) e (good_wire net.wires i (wire_at net.wires i) (good_wire-valid net i h lt))
 
 -- binary points are at most 15
 point_of-good : (kind : Kind) → is_good_kind kind ≡ true → point_of kind ≤ 15
 point_of-good (Num ty point) h = leb-true _ _ h
 point_of-good Truth h = omega arith
 
-kind_of_good : (wires : List Wire) (i : ℕ) (w : Wire) → is_good_wire wires i w ≡ true → is_good_kind w.kind ≡ true
-kind_of_good wires i w h =
-    (and_parts (is_name w.name) (is_good_kind w.kind) ((and_parts (is_name w.name && is_good_kind w.kind) (is_good_item wires i w.kind w.item) h).0)).1
-
 pub point_of-valid : (net : NetData) (i : ℕ) → IsValid net → i < length net.wires → point_of (wire_at net.wires i).kind ≤ 15
 point_of-valid net i h lt =
-    point_of-good (wire_at net.wires i).kind (kind_of_good net.wires i (wire_at net.wires i) (good_wire-valid net i h lt))
+    point_of-good (wire_at net.wires i).kind (good_wire net.wires i (wire_at net.wires i) (good_wire-valid net i h lt)).good_kind
 
 -- a test of two whole numbers
 le_from_test : (a b : ℤ) → int_le a b ≡ true → a ≤ℤ b
@@ -110,13 +129,13 @@ pub record IsGoodRange (kind : Kind) (lo hi : ℤ) : Type 0 where
 
 pub input-valid : (net : NetData) (i : ℕ) (lo hi : ℤ) → IsValid net → i < length net.wires → (wire_at net.wires i).item ≡ Input lo hi → IsGoodRange (wire_at net.wires i).kind lo hi
 input-valid net i lo hi h lt e =
-    let p = and_parts _ _ (good_item-valid net i (Input lo hi) h lt e) in
+    let p = and_parts _ _ (good_item-valid net i (Input lo hi) h lt e).in_range in
     let q = and_parts _ _ p.0 in
     record { low = (in_kind _ _ q.0).low; ordered = le_from_test _ _ p.1; high = (in_kind _ _ q.1).high }
 
 -- a constant lies in its kind
 pub const-valid : (net : NetData) (i : ℕ) (value : ℤ) → IsValid net → i < length net.wires → (wire_at net.wires i).item ≡ Const value → IsInKind (wire_at net.wires i).kind value
-const-valid net i value h lt e = in_kind _ _ (good_item-valid net i (Const value) h lt e)
+const-valid net i value h lt e = in_kind _ _ (good_item-valid net i (Const value) h lt e).in_range
 
 -- a wire of a type is a number wire
 pub number_kind : (ty : Ty) (kind : Kind) → is_number_of ty kind ≡ true → (point : ℕ) × (kind ≡ Num ty point)
@@ -128,19 +147,14 @@ pub record IsArgument (wires : List Wire) (i : ℕ) (ty : Ty) (a : WireNo) : Typ
   pub earlier : a.0 < i
   pub number : is_number_of ty (wire_at wires a.0).kind ≡ true
 
-argument : (wires : List Wire) (i : ℕ) (ty : Ty) (a : WireNo) → is_argument wires i ty a ≡ true → IsArgument wires i ty a
-argument wires i ty a h =
-    let p = and_parts _ _ h in
-    record { earlier = ltb-true _ _ p.0; number = p.1 }
-
 -- an argument is of its type; one that the routine doesn't have repeats the first
 abbrev pub IsGiven : List Wire → ℕ → WireNo → Option Ty → WireNo → Type 0
 IsGiven wires i first (Some ty) a = IsArgument wires i ty a
 IsGiven wires i first None a = a.0 ≡ first.0
 
-given : (wires : List Wire) (i : ℕ) (first : WireNo) (ty : Option Ty) (a : WireNo) → is_given wires i first ty a ≡ true → IsGiven wires i first ty a
-given wires i first (Some ty) a h = argument wires i ty a h
-given wires i first None a h = eqb-true _ _ h
+given : (wires : List Wire) (i : ℕ) (first : WireNo) (ty : Option Ty) (a : WireNo) → is_earlier i ty a.0 ≡ true → is_given wires first.0 ty a.0 ≡ true → IsGiven wires i first ty a
+given wires i first (Some ty) a e h = record { earlier = ltb-true _ _ e; number = h }
+given wires i first None a e h = eqb-true _ _ h
 
 -- each routine has a first argument, which is an earlier wire
 first_earlier : (wires : List Wire) (i : ℕ) (op : ArithOp) (v : Variant) (x : WireNo) → IsGiven wires i x (slice_get (argument_types op v) 0) x → x.0 < i
@@ -174,71 +188,90 @@ pub record IsGoodArith (wires : List Wire) (i : ℕ) (kind : Kind) (op : ArithOp
   pub shift : is_shift op sh ≡ true
   pub output : is_number_of v.o kind ≡ true
 
-good_arith : (wires : List Wire) (i : ℕ) (kind : Kind) (op : ArithOp) (v : Variant) (x y z : WireNo) (sh : ℕ) → is_good_block wires i kind (Arith op v x y z sh) ≡ true → IsGoodArith wires i kind op v x y z sh
-good_arith wires i kind op v x y z sh h =
-    let h1 = and_parts _ _ h in
-    let h2 = and_parts _ _ h1.0 in
-    let h3 = and_parts _ _ h2.0 in
-    let h4 = and_parts _ _ h3.0 in
-    let h5 = and_parts _ _ h4.0 in
-    let h6 = and_parts _ _ h5.0 in
-    let x_given = given wires i x (slice_get (argument_types op v) 0) x h5.1 in
-    let y_given = given wires i x (slice_get (argument_types op v) 1) y h4.1 in
-    let z_given = given wires i x (slice_get (argument_types op v) 2) z h3.1 in
-    let x_below = first_earlier wires i op v x x_given in
+-- what the tests say of three arguments
+record AreGiven (wires : List Wire) (i : ℕ) (b : Block) (x y z : WireNo) : Type 0 where
+  pub first : IsGiven wires i x (type_read b 0) x
+  pub second : IsGiven wires i x (type_read b 1) y
+  pub third : IsGiven wires i x (type_read b 2) z
+
+three_given : (wires : List Wire) (i : ℕ) (b : Block) (x y z : WireNo) → argument_of b 0 ≡ x.0 → argument_of b 1 ≡ y.0 → argument_of b 2 ≡ z.0 → reads_earlier i b ≡ true → are_given wires b ≡ true → AreGiven wires i b x y z
+three_given wires i b x y z ex ey ez early fit =
+    let e1 = and_parts _ _ early in
+    let e2 = and_parts _ _ e1.0 in
+    let f1 = and_parts _ _ fit in
+    let f2 = and_parts _ _ f1.0 in
     record {
-      built = h6.0;
-      taken = takes_from_test op v h6.1;
-      first = x_given;
-      second = y_given;
-      third = z_given;
+      first = given wires i x (type_read b 0) x (subst (λ (a : ℕ). is_earlier i (type_read b 0) a ≡ true) ex e2.0) (subst (λ (a : ℕ). is_given wires a (type_read b 0) a ≡ true) ex f2.0);
+      second = given wires i x (type_read b 1) y (subst (λ (a : ℕ). is_earlier i (type_read b 1) a ≡ true) ey e2.1) (subst (λ (a : ℕ). is_given wires x.0 (type_read b 1) a ≡ true) ey (subst (λ (a : ℕ). is_given wires a (type_read b 1) (argument_of b 1) ≡ true) ex f2.1));
+      third = given wires i x (type_read b 2) z (subst (λ (a : ℕ). is_earlier i (type_read b 2) a ≡ true) ez e1.1) (subst (λ (a : ℕ). is_given wires x.0 (type_read b 2) a ≡ true) ez (subst (λ (a : ℕ). is_given wires a (type_read b 2) (argument_of b 2) ≡ true) ex f1.1));
+    }
+
+good_arith : (wires : List Wire) (i : ℕ) (name : List ℕ) (kind : Kind) (op : ArithOp) (v : Variant) (x y z : WireNo) (sh : ℕ) → IsGoodWire wires i name kind (OfBlock (Arith op v x y z sh)) → IsGoodArith wires i kind op v x y z sh
+good_arith wires i name kind op v x y z sh h =
+    let a1 = and_parts _ _ h.agreed in
+    let a2 = and_parts _ _ a1.0 in
+    let args = three_given wires i (Arith op v x y z sh) x y z refl refl refl h.earlier a2.1 in
+    let x_below = first_earlier wires i op v x args.first in
+    record {
+      built = h.built;
+      taken = takes_from_test op v a2.0;
+      first = args.first;
+      second = args.second;
+      third = args.third;
       earlier_x = x_below;
-      earlier_y = given_earlier _ _ _ _ y x_below y_given;
-      earlier_z = given_earlier _ _ _ _ z x_below z_given;
-      shift = h2.1;
-      output = h1.1;
+      earlier_y = given_earlier _ _ _ _ y x_below args.second;
+      earlier_z = given_earlier _ _ _ _ z x_below args.third;
+      shift = h.in_range;
+      output = a1.1;
     }
 
 pub arith-valid : (net : NetData) (i : ℕ) (op : ArithOp) (v : Variant) (x y z : WireNo) (sh : ℕ) → IsValid net → i < length net.wires → (wire_at net.wires i).item ≡ OfBlock (Arith op v x y z sh) → IsGoodArith net.wires i (wire_at net.wires i).kind op v x y z sh
-arith-valid net i op v x y z sh h lt e = good_arith _ _ _ op _ _ _ _ _ (good_item-valid net i (OfBlock (Arith op v x y z sh)) h lt e)
+arith-valid net i op v x y z sh h lt e = good_arith _ _ _ _ op _ _ _ _ _ (good_item-valid net i (OfBlock (Arith op v x y z sh)) h lt e)
 
 -- a block with binary points, likewise
-pub record IsGoodScaled (wires : List Wire) (i : ℕ) (kind : Kind) (v : Variant) (x y : WireNo) : Type 0 where
-  pub built_x : is_built_ty v.x ≡ true
-  pub one_type : v.x ≡ v.y
-  pub built_o : is_built_ty v.o ≡ true
-  pub first : IsArgument wires i v.x x
-  pub second : y.0 ≡ x.0
+pub record IsGoodScaled (wires : List Wire) (i : ℕ) (kind : Kind) (op : ScaledOp) (v : Variant) (x y : WireNo) : Type 0 where
+  pub taken : takes_scaled op v ≡ true
+  pub first : IsGiven wires i x (slice_get (scaled_types op v) 0) x
+  pub second : IsGiven wires i x (slice_get (scaled_types op v) 1) y
+  pub earlier_x : x.0 < i
+  pub earlier_y : y.0 < i
   pub output : is_number_of v.o kind ≡ true
 
-good_scaled : (wires : List Wire) (i : ℕ) (kind : Kind) (op : ScaledOp) (v : Variant) (x y : WireNo) → is_good_block wires i kind (Scaled op v x y) ≡ true → IsGoodScaled wires i kind v x y
-good_scaled wires i kind op v x y h =
-    let h1 = and_parts _ _ h in
-    let h2 = and_parts _ _ h1.0 in
-    let h3 = and_parts _ _ h2.0 in
-    let h4 = and_parts _ _ h3.0 in
-    let h5 = and_parts _ _ h4.0 in
-    record { built_x = h5.0; one_type = same_ty-true _ _ h5.1; built_o = h4.1; first = argument _ _ _ _ h3.1; second = eqb-true _ _ h2.1; output = h1.1 }
+-- each form has a first argument
+first_scaled_earlier : (wires : List Wire) (i : ℕ) (op : ScaledOp) (v : Variant) (x : WireNo) → IsGiven wires i x (slice_get (scaled_types op v) 0) x → x.0 < i
+first_scaled_earlier wires i Convert v x g = g.earlier
+first_scaled_earlier wires i other v x g = g.earlier
 
-pub scaled-valid : (net : NetData) (i : ℕ) (op : ScaledOp) (v : Variant) (x y : WireNo) → IsValid net → i < length net.wires → (wire_at net.wires i).item ≡ OfBlock (Scaled op v x y) → IsGoodScaled net.wires i (wire_at net.wires i).kind v x y
-scaled-valid net i op v x y h lt e = good_scaled _ _ _ op _ _ _ (good_item-valid net i (OfBlock (Scaled op v x y)) h lt e)
+good_scaled : (wires : List Wire) (i : ℕ) (name : List ℕ) (kind : Kind) (op : ScaledOp) (v : Variant) (x y : WireNo) → IsGoodWire wires i name kind (OfBlock (Scaled op v x y)) → IsGoodScaled wires i kind op v x y
+good_scaled wires i name kind op v x y h =
+    let a1 = and_parts _ _ h.agreed in
+    let a2 = and_parts _ _ a1.0 in
+    let args = three_given wires i (Scaled op v x y) x y x refl refl refl h.earlier a2.1 in
+    let x_below = first_scaled_earlier wires i op v x args.first in
+    record {
+      taken = a2.0;
+      first = args.first;
+      second = args.second;
+      earlier_x = x_below;
+      earlier_y = given_earlier _ _ _ _ y x_below args.second;
+      output = a1.1;
+    }
 
--- the argument of a block with binary points is a number wire of the first type
-pub scaled_argument-valid : (net : NetData) (i : ℕ) (op : ScaledOp) (v : Variant) (x y : WireNo) → IsValid net → i < length net.wires → (wire_at net.wires i).item ≡ OfBlock (Scaled op v x y) → (point : ℕ) × ((wire_at net.wires x.0).kind ≡ Num v.x point)
-scaled_argument-valid net i op v x y h lt e = number_kind _ _ ((scaled-valid net i op v x y h lt e).first.number)
+pub scaled-valid : (net : NetData) (i : ℕ) (op : ScaledOp) (v : Variant) (x y : WireNo) → IsValid net → i < length net.wires → (wire_at net.wires i).item ≡ OfBlock (Scaled op v x y) → IsGoodScaled net.wires i (wire_at net.wires i).kind op v x y
+scaled-valid net i op v x y h lt e = good_scaled _ _ _ _ op _ _ _ (good_item-valid net i (OfBlock (Scaled op v x y)) h lt e)
 
 -- each argument of a block is an earlier wire
-argument_of-good : (wires : List Wire) (i : ℕ) (kind : Kind) (b : Block) → is_good_block wires i kind b ≡ true → (p : ℕ) → argument_of b p < i
-argument_of-good wires i kind (Arith op v x y z sh) h zero = (good_arith wires i kind op v x y z sh h).earlier_x
-argument_of-good wires i kind (Arith op v x y z sh) h (suc zero) = (good_arith wires i kind op v x y z sh h).earlier_y
-argument_of-good wires i kind (Arith op v x y z sh) h (suc (suc zero)) = (good_arith wires i kind op v x y z sh h).earlier_z
-argument_of-good wires i kind (Arith op v x y z sh) h (suc (suc (suc p))) = (good_arith wires i kind op v x y z sh h).earlier_x
-argument_of-good wires i kind (Scaled op v x y) h zero = (good_scaled wires i kind op v x y h).first.earlier
-argument_of-good wires i kind (Scaled op v x y) h (suc zero) = below_along _ _ _ (good_scaled wires i kind op v x y h).second (good_scaled wires i kind op v x y h).first.earlier
-argument_of-good wires i kind (Scaled op v x y) h (suc (suc p)) = (good_scaled wires i kind op v x y h).first.earlier
+argument_of-good : (wires : List Wire) (i : ℕ) (name : List ℕ) (kind : Kind) (b : Block) → IsGoodWire wires i name kind (OfBlock b) → (p : ℕ) → argument_of b p < i
+argument_of-good wires i name kind (Arith op v x y z sh) h zero = (good_arith wires i name kind op v x y z sh h).earlier_x
+argument_of-good wires i name kind (Arith op v x y z sh) h (suc zero) = (good_arith wires i name kind op v x y z sh h).earlier_y
+argument_of-good wires i name kind (Arith op v x y z sh) h (suc (suc zero)) = (good_arith wires i name kind op v x y z sh h).earlier_z
+argument_of-good wires i name kind (Arith op v x y z sh) h (suc (suc (suc p))) = (good_arith wires i name kind op v x y z sh h).earlier_x
+argument_of-good wires i name kind (Scaled op v x y) h zero = (good_scaled wires i name kind op v x y h).earlier_x
+argument_of-good wires i name kind (Scaled op v x y) h (suc zero) = (good_scaled wires i name kind op v x y h).earlier_y
+argument_of-good wires i name kind (Scaled op v x y) h (suc (suc p)) = (good_scaled wires i name kind op v x y h).earlier_x
 
 pub argument_of-valid : (net : NetData) (i : ℕ) (b : Block) → IsValid net → i < length net.wires → (wire_at net.wires i).item ≡ OfBlock b → (p : ℕ) → argument_of b p < i
-argument_of-valid net i b h lt e p = argument_of-good _ _ _ b (good_item-valid net i (OfBlock b) h lt e) p
+argument_of-valid net i b h lt e p = argument_of-good _ _ _ _ b (good_item-valid net i (OfBlock b) h lt e) p
 
 -- each output is a wire
 pub outs-valid : (net : NetData) → IsValid net → list_all (λ o. nat_lt o.0 (length net.wires)) net.outs ≡ true

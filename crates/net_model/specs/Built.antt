@@ -3,9 +3,11 @@ use Rattle.std.specs.Prelude.{ℕ, Bool, true, false, ◌&&◌, ◌==◌, nat_le
 use Rattle.fx_core.specs.declared.word_type.Ty.{Ty}
 use Rattle.fx_core.specs.declared.word_type.Ty.TheVariants.{U8, S8, U16, S16, U32, S32}
 use Rattle.fx_core.specs.Types.{width_of}
-use Rattle.mfx_arith.specs.declared.operation.ArithOp.{ArithOp}
-use Rattle.mfx_arith.specs.declared.operation.ArithOp.TheVariants.{Abs, Mod, MulShRight, DivShLeft, Limit, Min, Max, RateLimiter}
-use Rattle.mfx_arith.specs.declared.operation.Variant.{Variant}
+use Rattle.fx_routines.specs.declared.operation.ArithOp.{ArithOp}
+use Rattle.fx_routines.specs.declared.operation.ArithOp.TheVariants.{Abs, Mod, MulShRight, DivShLeft, Limit, Min, Max, RateLimiter}
+use Rattle.fx_routines.specs.declared.operation.Variant.{Variant}
+use Rattle.fx_routines.specs.declared.operation.ScaledOp.{ScaledOp}
+use Rattle.fx_routines.specs.declared.operation.ScaledOp.TheVariants.{Convert}
 
 -- the operation is built as a block: all are but the remainder
 abbrev pub is_built : ArithOp → Bool
@@ -43,8 +45,7 @@ is_shift MulShRight sh = nat_le sh 15
 is_shift DivShLeft sh = nat_le sh 15
 is_shift other sh = sh == 0
 
--- the types of the built conversions: signed ones of 16 and 32 bits
-abbrev pub is_built_ty : Ty → Bool
-is_built_ty S16 = true
-is_built_ty S32 = true
-is_built_ty _ = false
+-- the test of what a form with binary points takes: a conversion has one input, which its second type repeats
+abbrev pub takes_scaled : ScaledOp → Variant → Bool
+takes_scaled Convert v = same_ty v.x v.y
+takes_scaled other v = width_of v.x == width_of v.y

@@ -1,33 +1,76 @@
--- When a wire and an output have no fault, with those before them at hand.
-use Rattle.std.specs.Prelude.{ℕ, Bool, not, ◌&&◌, ◌==◌, List, get_or, take, bytes_eq, nat_lt}
-use Rattle.std.specs.List.{list_any}
+-- What is wrong with a draft: the tests of each wire in their order, then those of no wire. The first that fails names
+-- the wire and the kind.
+use Rattle.std.specs.Prelude.{ℕ, ◌+◌, Bool, not, ◌&&◌, ◌==◌, List, [], ◌∷◌, ◌++◌, length, take, nat_lt, bytes_eq, Result, Ok, Err}
+use Rattle.std.specs.List.{list_any, list_all}
+use Rattle.text_words.specs.Names.{is_name}
+use Rattle.text_words.specs.Steps.{◌>>=◌, demand}
+use Rattle.net_model.specs.declared.network.NetKind.{NetKind}
+use Rattle.net_model.specs.declared.network.NetKind.TheVariants.{Repeated, NotBuilt, LaterWire, TypeDiffers, OutOfRange, TooMany, Missing}
+use Rattle.net_model.specs.declared.draft_checks.Fault.{Fault}
 use Rattle.net_model.specs.declared.wires.WireNo.{WireNo}
 use Rattle.net_model.specs.declared.wires.Wire.{Wire}
-use Rattle.net_model.specs.declared.wires.Role.{Role}
-use Rattle.net_model.specs.declared.wires.Part.{Part}
-use Rattle.net_model.specs.Wires.{same_role, wire_at}
-use Rattle.net_model.specs.Validity.{is_good_wire}
+use Rattle.net_model.specs.Wires.{NetData, is_input}
+use Rattle.net_model.specs.Validity.{is_good_kind, is_built_item, item_reads_earlier, item_agrees, item_in_range, most_wires}
 
--- two wires have one name
-abbrev pub same_name : Wire → Wire → Bool
-same_name v w = bytes_eq v.name w.name
+-- the name of each wire is one
+abbrev pub are_named : List Wire → Bool
+are_named wires = list_all (λ w. is_name w.name) wires
 
--- wire i has the name of no wire before it, and is good in its place
-abbrev pub is_sound_wire : List Wire → ℕ → Bool
-is_sound_wire wires i = not (list_any (same_name (wire_at wires i)) (take i wires)) && is_good_wire wires i (wire_at wires i)
+-- a wire of the list has the name
+abbrev pub has_name : List Wire → List ℕ → Bool
+has_name wires name = list_any (λ w. bytes_eq name w.name) wires
 
--- the wire that is read where there is no output
-abbrev pub no_out : WireNo
-no_out = record { 0 = 0 }
+-- the tests of wire i, with all wires at hand
+unfoldable pub wire_tested : List Wire → ℕ → Wire → Result (Unit {0}) NetKind
+wire_tested wires i w = do
+  _ ← demand (not (has_name (take i wires) w.name)) Repeated
+  _ ← demand (is_built_item w.item) NotBuilt
+  _ ← demand (item_reads_earlier i w.item) LaterWire
+  _ ← demand (item_agrees wires w.kind w.item) TypeDiffers
+  _ ← demand (is_good_kind w.kind && item_in_range w.kind w.item) OutOfRange
+  demand (nat_lt i most_wires) TooMany
 
--- two numbers are of one wire
-abbrev pub same_number : WireNo → WireNo → Bool
-same_number m n = m.0 == n.0
+-- a fault of a wire, or of no wire where the number is that of all wires
+abbrev pub at_wire : {A : Type 0} → ℕ → Result A NetKind → Result A Fault
+at_wire wire (Ok value) = Ok value
+at_wire wire (Err kind) = Err (record { wire = wire; kind = kind })
 
--- no output before output i is the same, and it is one of so many wires
-abbrev pub is_sound_output : List WireNo → ℕ → ℕ → Bool
-is_sound_output outs count i = not (list_any (same_number (get_or outs i no_out)) (take i outs)) && nat_lt (get_or outs i no_out).0 count
+-- the tests of the wires from number i on
+unfoldable pub wires_tested : List Wire → ℕ → List Wire → Result (Unit {0}) Fault
+wires_tested wires i [] = Ok tt
+wires_tested wires i (w ∷ rest) = do
+  _ ← at_wire i (wire_tested wires i w)
+  wires_tested wires (i + 1) rest
 
--- a part is the one of a wire with a role
-abbrev pub is_part : ℕ → Role → Part → Bool
-is_part wire role p = (p.wire.0 == wire) && same_role p.role role
+-- an output is among others
+abbrev pub is_among : List WireNo → WireNo → Bool
+is_among others o = list_any (λ m. o.0 == m.0) others
+
+-- the tests of an output below others, in a network of so many wires: it isn't one of them, and it is a wire
+unfoldable pub out_tested : ℕ → List WireNo → WireNo → Result (Unit {0}) NetKind
+out_tested count above o = do
+  _ ← demand (not (is_among above o)) Repeated
+  demand (nat_lt o.0 count) LaterWire
+
+-- the tests of the outputs below others
+unfoldable pub outs_tested : ℕ → List WireNo → List WireNo → Result (Unit {0}) NetKind
+outs_tested count above [] = Ok tt
+outs_tested count above (o ∷ rest) = do
+  _ ← out_tested count above o
+  outs_tested count (above ++ o ∷ []) rest
+
+-- there is an input and an output
+abbrev pub has_ends : List Wire → List WireNo → Bool
+has_ends wires outs = list_any (λ w. is_input w.item) wires && nat_lt 0 (length outs)
+
+-- the tests of no wire
+unfoldable pub ends_tested : NetData → Result (Unit {0}) NetKind
+ends_tested net = do
+  _ ← outs_tested (length net.wires) [] net.outs
+  demand (has_ends net.wires net.outs) Missing
+
+-- the tests of a draft, in their order
+unfoldable pub tested : NetData → Result (Unit {0}) Fault
+tested net = do
+  _ ← wires_tested net.wires 0 net.wires
+  at_wire (length net.wires) (ends_tested net)

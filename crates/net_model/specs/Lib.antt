@@ -1,13 +1,8 @@
 pub mod Wires
+pub mod NameMap
 pub mod Built
 pub mod Validity
 pub mod Smooth
-pub mod Formulas
-pub mod Given
 pub mod Faults
 pub mod Drafts
 pub mod Refusals
-pub mod TypeWords
-pub mod RoutineWords
-pub mod Forms
-pub mod Text

@@ -1,11 +1,11 @@
 -- Why a draft gives no network.
-use Rattle.std.specs.Prelude.{◌≡◌, true, false}
+use Rattle.std.specs.Prelude.{◌≡◌, Ok, Err}
 use Rattle.net_model.specs.declared.network.NetRefusal.{NetRefusal}
 use Rattle.net_model.specs.declared.network.NetRefusal.TheVariants.{At, OutOfMemory}
 use Rattle.net_model.specs.Wires.{NetData}
-use Rattle.net_model.specs.Validity.{is_valid}
+use Rattle.net_model.specs.Faults.{tested}
 
--- a fault is found where the network isn't valid, and a valid one is refused only at want of memory
+-- the refusal names the first test that fails, and a draft that passes all is refused only at want of memory
 abbrev pub IsRefusedFor : NetData → NetRefusal → Type 0
-IsRefusedFor net (At wire kind) = is_valid net ≡ false
-IsRefusedFor net OutOfMemory = is_valid net ≡ true
+IsRefusedFor net (At wire kind) = tested net ≡ Err (record { wire = wire; kind = kind })
+IsRefusedFor net OutOfMemory = tested net ≡ Ok tt

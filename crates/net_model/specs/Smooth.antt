@@ -1,6 +1,6 @@
 -- Smooth networks: those that certificates are for.
 use Rattle.std.specs.Prelude.{◌≡◌, ℕ, ◌<◌, Bool, true, false, List, length, IsTrue}
-use Rattle.mfx_arith.specs.declared.operation.ArithOp.TheVariants.{Mod}
+use Rattle.fx_routines.specs.declared.operation.ArithOp.TheVariants.{Mod}
 use Rattle.net_model.specs.declared.wires.Item.{Item}
 use Rattle.net_model.specs.declared.wires.Item.TheVariants.{Input, Const, Block as OfBlock}
 use Rattle.net_model.specs.declared.wires.Block.{Block}

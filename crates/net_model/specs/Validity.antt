@@ -4,7 +4,6 @@ use Rattle.std.specs.List.{list_any, list_all}
 use Rattle.text_words.specs.Names.{is_name}
 use Rattle.fx_core.specs.declared.word_type.Ty.{Ty}
 use Rattle.mfx_arith.specs.Operations.{argument_types}
-use Rattle.net_model.specs.declared.wires.WireNo.{WireNo}
 use Rattle.net_model.specs.declared.wires.Kind.{Kind}
 use Rattle.net_model.specs.declared.wires.Kind.TheVariants.{Num, Truth}
 use Rattle.net_model.specs.declared.wires.Block.{Block}
@@ -12,8 +11,9 @@ use Rattle.net_model.specs.declared.wires.Block.TheVariants.{Arith, Scaled}
 use Rattle.net_model.specs.declared.wires.Item.{Item}
 use Rattle.net_model.specs.declared.wires.Item.TheVariants.{Input, Const, Block as OfBlock}
 use Rattle.net_model.specs.declared.wires.Wire.{Wire}
-use Rattle.net_model.specs.Built.{is_built, same_ty, takes_types, is_shift, is_built_ty}
-use Rattle.net_model.specs.Wires.{NetData, wire_at, kind_least, kind_greatest, is_input}
+use Rattle.mfx_scaled.specs.Operations.{argument_types as scaled_types}
+use Rattle.net_model.specs.Built.{is_built, same_ty, takes_types, is_shift, takes_scaled}
+use Rattle.net_model.specs.Wires.{NetData, wire_at, kind_least, kind_greatest, argument_of, is_input}
 
 -- a binary point is at most 15
 abbrev pub is_good_kind : Kind → Bool
@@ -29,33 +29,91 @@ abbrev pub is_number_of : Ty → Kind → Bool
 is_number_of ty (Num t point) = same_ty ty t
 is_number_of ty Truth = false
 
--- an argument of a block of wire i is an earlier wire of the type
-abbrev pub is_argument : List Wire → ℕ → Ty → WireNo → Bool
-is_argument wires i ty a = nat_lt a.0 i && is_number_of ty (wire_at wires a.0).kind
+-- ---- blocks, one equation a family
 
--- an argument is an earlier wire of its type; one that the routine doesn't have repeats the first
-abbrev pub is_given : List Wire → ℕ → WireNo → Option Ty → WireNo → Bool
-is_given wires i first (Some ty) a = is_argument wires i ty a
-is_given wires i first None a = a.0 == first.0
+-- networks can have the block's routine as a block
+abbrev pub is_built_block : Block → Bool
+is_built_block (Arith op v x y z sh) = is_built op
+is_built_block (Scaled op v x y) = true
 
--- a block of wire i is built, its arguments are earlier wires of its types, what it lacks repeats the
--- first argument or is 0, and the wire is of its output's type
-abbrev pub is_good_block : List Wire → ℕ → Kind → Block → Bool
-is_good_block wires i kind (Arith op v x y z sh) =
-    is_built op && takes_types op v
-    && is_given wires i x (slice_get (argument_types op v) 0) x && is_given wires i x (slice_get (argument_types op v) 1) y && is_given wires i x (slice_get (argument_types op v) 2) z
-    && is_shift op sh && is_number_of v.o kind
-is_good_block wires i kind (Scaled op v x y) = is_built_ty v.x && same_ty v.x v.y && is_built_ty v.o && is_argument wires i v.x x && y.0 == x.0 && is_number_of v.o kind
+-- the types of the wires that a block reads, in their order
+abbrev pub types_read : Block → List Ty
+types_read (Arith op v x y z sh) = argument_types op v
+types_read (Scaled op v x y) = scaled_types op v
 
--- a declared range isn't empty and lies in the kind, as does a constant
-abbrev pub is_good_item : List Wire → ℕ → Kind → Item → Bool
-is_good_item wires i kind (Input lo hi) = kind_holds kind lo && kind_holds kind hi && int_le lo hi
-is_good_item wires i kind (Const value) = kind_holds kind value
-is_good_item wires i kind (OfBlock b) = is_good_block wires i kind b
+-- there is a routine of the block's types
+abbrev pub takes_block : Block → Bool
+takes_block (Arith op v x y z sh) = takes_types op v
+takes_block (Scaled op v x y) = takes_scaled op v
+
+-- the type that a block gives
+abbrev pub type_given : Block → Ty
+type_given (Arith op v x y z sh) = v.o
+type_given (Scaled op v x y) = v.o
+
+-- the numbers that a block is given beside its wires lie in their ranges
+abbrev pub has_good_numbers : Block → Bool
+has_good_numbers (Arith op v x y z sh) = is_shift op sh
+has_good_numbers (Scaled op v x y) = true
+
+-- ---- what a block of wire i reads
+
+-- the type of argument number p of a block, from 0; none where the routine doesn't have it
+abbrev pub type_read : Block → ℕ → Option Ty
+type_read b p = slice_get (types_read b) p
+
+-- an argument that the routine has is an earlier wire
+abbrev pub is_earlier : ℕ → Option Ty → ℕ → Bool
+is_earlier i (Some ty) a = nat_lt a i
+is_earlier i None a = true
+
+-- an argument that the routine has is a number wire of its type; one that it doesn't have repeats the first
+abbrev pub is_given : List Wire → ℕ → Option Ty → ℕ → Bool
+is_given wires first (Some ty) a = is_number_of ty (wire_at wires a).kind
+is_given wires first None a = a == first
+
+-- each argument is an earlier wire
+abbrev pub reads_earlier : ℕ → Block → Bool
+reads_earlier i b = is_earlier i (type_read b 0) (argument_of b 0) && is_earlier i (type_read b 1) (argument_of b 1) && is_earlier i (type_read b 2) (argument_of b 2)
+
+-- each argument passes the test of what is given
+abbrev pub are_given : List Wire → Block → Bool
+are_given wires b = is_given wires (argument_of b 0) (type_read b 0) (argument_of b 0) && is_given wires (argument_of b 0) (type_read b 1) (argument_of b 1) && is_given wires (argument_of b 0) (type_read b 2) (argument_of b 2)
+
+-- the types of a block, of its arguments and of its wire agree
+abbrev pub agrees : List Wire → Kind → Block → Bool
+agrees wires kind b = takes_block b && are_given wires b && is_number_of (type_given b) kind
+
+-- ---- items and wires
+
+-- networks can have the item
+abbrev pub is_built_item : Item → Bool
+is_built_item (Input lo hi) = true
+is_built_item (Const value) = true
+is_built_item (OfBlock b) = is_built_block b
+
+-- what the item of wire i reads stands before it
+abbrev pub item_reads_earlier : ℕ → Item → Bool
+item_reads_earlier i (Input lo hi) = true
+item_reads_earlier i (Const value) = true
+item_reads_earlier i (OfBlock b) = reads_earlier i b
+
+-- the types of the item of a wire of this kind agree
+abbrev pub item_agrees : List Wire → Kind → Item → Bool
+item_agrees wires kind (Input lo hi) = true
+item_agrees wires kind (Const value) = true
+item_agrees wires kind (OfBlock b) = agrees wires kind b
+
+-- a declared range isn't empty and lies in the kind, as does a constant; a block's numbers lie in their ranges
+abbrev pub item_in_range : Kind → Item → Bool
+item_in_range kind (Input lo hi) = kind_holds kind lo && kind_holds kind hi && int_le lo hi
+item_in_range kind (Const value) = kind_holds kind value
+item_in_range kind (OfBlock b) = has_good_numbers b
 
 -- wire i, with all wires at hand
 abbrev pub is_good_wire : List Wire → ℕ → Wire → Bool
-is_good_wire wires i w = is_name w.name && is_good_kind w.kind && is_good_item wires i w.kind w.item
+is_good_wire wires i w =
+    is_name w.name && is_built_item w.item && item_reads_earlier i w.item && item_agrees wires w.kind w.item && is_good_kind w.kind && item_in_range w.kind w.item
 
 -- the wires from number i on
 abbrev pub are_good_from : List Wire → ℕ → List Wire → Bool
@@ -72,10 +130,14 @@ abbrev pub are_distinct_numbers : List ℕ → Bool
 are_distinct_numbers [] = true
 are_distinct_numbers (n ∷ rest) = not (list_any (λ m. n == m) rest) && are_distinct_numbers rest
 
+-- how many wires a network may have
+abbrev pub most_wires : ℕ
+most_wires = 512
+
 -- a network is valid where it has at most 512 wires, their names are distinct, each is good in its place, each
 -- output is a wire and none stands twice, and there is at least one input and one output
 unfoldable pub is_valid : NetData → Bool
-is_valid net = nat_le (length net.wires) 512 && are_distinct (map (λ w. w.name) net.wires) && are_good_from net.wires 0 net.wires && list_all (λ o. nat_lt o.0 (length net.wires)) net.outs && are_distinct_numbers (map (λ o. o.0) net.outs) && list_any (λ w. is_input w.item) net.wires && nat_lt 0 (length net.outs)
+is_valid net = nat_le (length net.wires) most_wires && are_distinct (map (λ w. w.name) net.wires) && are_good_from net.wires 0 net.wires && list_all (λ o. nat_lt o.0 (length net.wires)) net.outs && are_distinct_numbers (map (λ o. o.0) net.outs) && list_any (λ w. is_input w.item) net.wires && nat_lt 0 (length net.outs)
 
 abbrev pub IsValid : NetData → Type 0
 IsValid net = IsTrue (is_valid net)

@@ -1,5 +1,5 @@
 -- A network as data, and what is read off its wires without running it.
-use Rattle.std.specs.Prelude.{ℕ, zero, suc, ◌+◌, Bool, true, false, List, [], ◌∷◌, ◌++◌, map, get_or, take, ℤ, pos, count_by, ◌&&◌, ◌==◌, Option, Some, None, if◌then◌else◌}
+use Rattle.std.specs.Prelude.{ℕ, zero, suc, ◌+◌, Bool, true, false, List, [], ◌∷◌, ◌++◌, map, get_or, take, ℤ, pos, count_by, ◌&&◌, ◌==◌, Option, Some, None, position, bytes_eq, if◌then◌else◌}
 use Rattle.fx_core.specs.declared.word_type.Ty.TheVariants.{U8}
 use Rattle.fx_core.specs.Types.{least_of, greatest_of}
 use Rattle.net_model.specs.declared.wires.WireNo.{WireNo}
@@ -100,6 +100,10 @@ no_part = record { wire = record { 0 = 0 }; role = Value }
 abbrev pub same_role : Role → Role → Bool
 same_role Value Value = true
 
+-- a part is the one of a wire with a role
+abbrev pub is_part : ℕ → Role → Part → Bool
+is_part wire role p = (p.wire.0 == wire) && same_role p.role role
+
 -- the number of a part of a wire in a list of parts: how many stand before it
 abbrev pub place_in : ℕ → Role → List Part → ℕ
 place_in wire role [] = 0
@@ -113,3 +117,7 @@ has_role role (r ∷ roles) = if same_role r role then true else has_role role r
 -- the number of a part of a wire; none where the wire has no such part
 unfoldable pub part_number : List Wire → ℕ → Role → Option ℕ
 part_number wires wire role = if has_role role (roles_of (wire_at wires wire).item) then Some (place_in wire role (parts_of wires)) else None
+
+-- the number of the first wire of a name; none where no wire has it
+unfoldable pub place_of : List Wire → List ℕ → Option ℕ
+place_of wires name = position (λ w. bytes_eq w.name name) wires

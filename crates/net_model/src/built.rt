@@ -2,10 +2,12 @@
 
 ghost use Rattle.std.specs.Prelude.{◌≡◌, slice_get};
 ghost use Rattle.mfx_arith.specs.Operations.{argument_types, unsigned_of};
-ghost use Rattle.net_model.specs.Built.{has_shift, is_built, is_shift, same_ty, takes_types};
+ghost use Rattle.net_model.specs.Built.{has_shift, is_built, is_shift, same_ty, takes_scaled, takes_types};
+ghost use Rattle.mfx_scaled.specs.Operations.{argument_types as scaled_types};
 
 use fx_core::Ty;
 use mfx_arith::{ArithOp, Variant, takes};
+use mfx_scaled::ScaledOp;
 
 /// The greatest count of places that a routine shifts by.
 pub const GREATEST_SHIFT: u8 = 15;
@@ -89,4 +91,31 @@ pub fn same_ty(one: Ty, other: Ty) -> bool
     ensures { result ≡ same_ty one other }
 {
     one == other
+}
+
+/// Whether a form with binary points has a routine at these types.
+pub fn takes_scaled(op: ScaledOp, v: Variant) -> bool
+    ensures { result ≡ takes_scaled op v }
+{
+    match op {
+        ScaledOp::Convert => same_ty(v.x, v.y),
+        _ => v.x.width() == v.y.width(),
+    }
+}
+
+/// The types of the arguments of a form with binary points.
+pub fn scaled_types(op: ScaledOp, v: Variant) -> ArgumentTypes
+    ensures x { result.x ≡ slice_get (scaled_types op v) 0 }
+    ensures y { result.y ≡ slice_get (scaled_types op v) 1 }
+    ensures z { result.z ≡ slice_get (scaled_types op v) 2 }
+{
+    let y = match op {
+        ScaledOp::Convert => None,
+        _ => Some(v.y),
+    };
+    ArgumentTypes {
+        x: Some(v.x),
+        y,
+        z: None,
+    }
 }

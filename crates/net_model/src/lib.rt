@@ -1,24 +1,21 @@
-// Networks as data: names, wires with their kinds and items, blocks, and when a network is valid. The
-// reader of a network's text stands here too, until the text has a crate of its own.
+// Networks as data: names, wires with their kinds and items, blocks, and when a network is valid, by the
+// tests of each wire in their order, which the reader of a network's text makes too.
 #![tactic(auto)]
 
 mod built;
-mod definitions;
+mod conditions;
 mod draft_checks;
-pub mod first;
-mod line_forms;
 mod naming;
 mod network;
 mod numbering;
-mod reader;
-mod routine_word;
 mod smoothness;
 #[cfg(test)]
 mod tests;
-mod type_word;
 mod wires;
 
+pub use built::{ArgumentTypes, GREATEST_SHIFT, argument_types, has_shift, is_built, scaled_types};
+pub use conditions::{Arguments, agrees, kind_holds};
+pub use draft_checks::{MOST_WIRES, has_ends, is_range};
 pub use naming::{Name, NameFault};
 pub use network::{Draft, NetKind, NetRefusal, Network};
-pub use reader::{NetFault, ReadFault, law_of_reading, read_network};
 pub use wires::{Block, Item, Kind, Part, PartNo, Role, Wire, WireNo};

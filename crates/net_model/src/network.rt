@@ -1,13 +1,14 @@
 ghost use Rattle.std.specs.Prelude.{◌≡◌, ◌<◌, IfErr, IfOk, OnOk, length, option_map};
-ghost use Rattle.net_model.specs.Wires.{inputs_of, part_number, parts_of};
+ghost use Rattle.net_model.specs.Wires.{inputs_of, part_number, parts_of, place_of};
 ghost use Rattle.net_model.specs.Validity.{IsValid};
 ghost use Rattle.net_model.specs.Smooth.{IsFirstRough, IsSmooth};
 ghost use Rattle.net_model.specs.declared.network.NetRefusal.TheVariants.{At, OutOfMemory};
 
 use crate::draft_checks::{Fault, check_draft};
-use crate::numbering::{input_numbers, part_list, place_of};
+use crate::numbering::{input_numbers, name_map, part_list, place_of};
 use crate::smoothness::first_rough;
 use crate::wires::{Part, PartNo, Role, Wire, WireNo};
+use indexmap::IndexMap;
 use std::alloc::{AllocError, Global};
 use std::marker::Model;
 
@@ -43,6 +44,8 @@ pub enum NetKind {
     TooMany,
     /// There is no input or no output.
     Missing,
+    /// The routine, or the keyword of the line, isn't built yet; tested right after `UnknownRoutine`.
+    NotBuilt,
 }
 
 /// Why a draft gives no network.
@@ -85,12 +88,14 @@ pub struct Network {
     inputs: Vec<WireNo>,
     outs: Vec<WireNo>,
     parts: Vec<Part>,
+    names: IndexMap<Vec<u8>, WireNo>,
 }
 
 impl Model for Network {
     ghost use Rattle.std.specs.Prelude.{◌≡◌};
     ghost use Rattle.net_model.specs.Wires.{NetData, inputs_of, parts_of};
     ghost use Rattle.net_model.specs.Validity.{IsValid};
+    ghost use Rattle.net_model.specs.NameMap.{HasNumbersOf};
 
     ghost Value = { NetData };
 
@@ -98,7 +103,8 @@ impl Model for Network {
 
     ghost invariant = { λ n. IsValid (record { wires = n.wires.items; outs = n.outs.items })
         × (n.inputs.items ≡ inputs_of n.wires.items)
-        × (n.parts.items ≡ parts_of n.wires.items) };
+        × (n.parts.items ≡ parts_of n.wires.items)
+        × HasNumbersOf n.wires.items n.names };
 }
 
 impl Network {
@@ -106,8 +112,9 @@ impl Network {
     ghost use Rattle.net_model.specs.Refusals.{IsRefusedFor};
 
     /// The network of a draft, if the draft is valid. A refusal names the first wire that breaks a
-    /// condition.
-    #[tactic(auto, using(crate::proofs::DraftLemmas::few_wires))]
+    /// condition and the first that it breaks, in the order of `NetKind`; a fault of no wire is told
+    /// where no wire has one, and has the number of wires.
+    #[tactic(auto, using(crate::proofs::TestedDrafts::valid_if_tested))]
     pub fn new(alloc: Global, draft: Draft) -> Result<Network, NetRefusal>
         ensures made { IfOk result (λ net. net ≡ data_of draft) }
         ensures valid { IfOk result IsValid }
@@ -116,11 +123,13 @@ impl Network {
         check_draft(&draft)?;
         let inputs = input_numbers(alloc, &draft.wires)?;
         let parts = part_list(alloc, &draft.wires)?;
+        let names = name_map(alloc, &draft.wires)?;
         Ok(Network {
             wires: draft.wires,
             inputs,
             outs: draft.outs,
             parts,
+            names,
         })
     }
 
@@ -138,6 +147,13 @@ impl Network {
         ensures valid { IsValid self.now }
     {
         self.inputs.as_slice()
+    }
+
+    /// The wire of a name; None exactly where no wire has it.
+    pub fn find(&self, name: &[u8]) -> Option<WireNo>
+        ensures { result ≡ option_map (λ n. record { 0 = n }) (place_of self.now.wires name.now) }
+    {
+        self.names.get(name).copied()
     }
 
     /// The outputs, in the order of printing.

@@ -1,9 +1,11 @@
-// The lists that a network keeps beside its wires: the inputs and the parts.
-ghost use Rattle.std.specs.Prelude.{◌≡◌, ◌<◌, ◌^◌, IfOk, IfSome, length, option_map, position};
-ghost use Rattle.net_model.specs.Wires.{inputs_of, parts_of, same_role};
-ghost use Rattle.net_model.specs.Faults.{is_part};
+// What a network keeps beside its wires: the inputs, the parts, and the numbers by the names.
+ghost use Rattle.std.specs.Prelude.{◌≡◌, ◌<◌, ◌^◌, IfOk, IfSome, length, map, option_map, position, true};
+ghost use Rattle.net_model.specs.Wires.{inputs_of, is_part, parts_of, same_role};
+ghost use Rattle.net_model.specs.Validity.{are_distinct};
+ghost use Rattle.net_model.specs.NameMap.{HasNumbersOf};
 
 use crate::wires::{Part, PartNo, Role, Wire, WireNo};
+use indexmap::IndexMap;
 use std::alloc::{AllocError, Global};
 
 /// The wires that are inputs, in order.
@@ -66,4 +68,18 @@ fn same_role(one: Role, other: Role) -> bool
     ensures { result ≡ same_role one other }
 {
     one == other
+}
+
+/// The numbers of the wires by their names.
+pub fn name_map(alloc: Global, wires: &[Wire]) -> Result<IndexMap<Vec<u8>, WireNo>, AllocError>
+    requires few { length wires.now < 2 ^ 32 }
+    requires distinct { are_distinct (map (λ w. w.name) wires.now) ≡ true }
+    ensures { IfOk result (HasNumbersOf wires.now) }
+{
+    let mut names = IndexMap::with_capacity(alloc, wires.len())?;
+    for (i, wire) in wires.iter().enumerate() {
+        let name = Vec::from_slice(alloc, wire.name.bytes())?;
+        names.insert(name, WireNo(i as u32))?;
+    }
+    Ok(names)
 }

@@ -1,12 +1,10 @@
-ghost use Rattle.std.specs.Prelude.{◌<◌, ◌^◌, length};
-
-use crate::first::{Points, ScaledOp, convert};
 use crate::{
-    Block, Draft, Item, Kind, Name, NameFault, NetKind, Network, PartNo, ReadFault, Role, Wire,
-    WireNo, read_network,
+    Block, Draft, Item, Kind, Name, NameFault, NetKind, NetRefusal, Network, PartNo, Role, Wire,
+    WireNo,
 };
 use fx_core::Ty;
 use mfx_arith::{ArithOp, Variant};
+use mfx_scaled::ScaledOp;
 use std::alloc::Global;
 use std::test::Fail;
 
@@ -16,15 +14,102 @@ const SAME: Variant = Variant {
     o: Ty::S16,
 };
 
+// What the cases change of a network of two inputs, the conversion of the second to the first one's
+// binary point, and the sum of both.
+#[derive(Clone, Copy)]
+struct Sum {
+    // The least value of the first input.
+    lo: i64,
+    // The name of the sum, its binary point and its block.
+    name: &'static [u8],
+    point: u8,
+    op: ArithOp,
+    v: Variant,
+    y: WireNo,
+    z: WireNo,
+    sh: u8,
+    outs: &'static [WireNo],
+}
+
+const SUM: Sum = Sum {
+    lo: 0,
+    name: b"s",
+    point: 0,
+    op: ArithOp::Add,
+    v: SAME,
+    y: WireNo(2),
+    z: WireNo(0),
+    sh: 0,
+    outs: &[WireNo(3)],
+};
+
+// One change of the network, for which it is refused.
+#[derive(Clone, Copy, Debug)]
+enum Change {
+    NameTwice,
+    Remainder,
+    OwnWire,
+    OtherType,
+    OneTooMany,
+    ShiftOf16,
+    NoShift,
+    Point16,
+    EmptyRange,
+    OutputTwice,
+    OutputPast,
+    NoOutput,
+}
+
+fn changed(change: Change) -> Sum {
+    match change {
+        Change::NameTwice => Sum { name: b"a", ..SUM },
+        Change::Remainder => Sum {
+            op: ArithOp::Mod,
+            ..SUM
+        },
+        Change::OwnWire => Sum {
+            y: WireNo(3),
+            ..SUM
+        },
+        Change::OtherType => Sum {
+            v: Variant { y: Ty::U16, ..SAME },
+            ..SUM
+        },
+        Change::OneTooMany => Sum {
+            z: WireNo(1),
+            ..SUM
+        },
+        Change::ShiftOf16 => Sum {
+            op: ArithOp::MulShRight,
+            sh: 16,
+            ..SUM
+        },
+        Change::NoShift => Sum { sh: 1, ..SUM },
+        Change::Point16 => Sum { point: 16, ..SUM },
+        Change::EmptyRange => Sum { lo: 1001, ..SUM },
+        Change::OutputTwice => Sum {
+            outs: &[WireNo(3), WireNo(3)],
+            ..SUM
+        },
+        Change::OutputPast => Sum {
+            outs: &[WireNo(4)],
+            ..SUM
+        },
+        Change::NoOutput => Sum { outs: &[], ..SUM },
+    }
+}
+
 fn wire(alloc: Global, name: &[u8], kind: Kind, item: Item) -> Result<Wire, NameFault> {
     let name = Name::new(alloc, name)?;
     Ok(Wire { name, kind, item })
 }
 
-// Two inputs, the conversion of the second to the first one's binary point, and the sum of both.
-fn sum_of_inputs(alloc: Global) -> Result<Draft, Fail> {
+fn draft_of(alloc: Global, sum: Sum) -> Result<Draft, Fail> {
     let mut wires = Vec::new(alloc);
-    let a = Item::Input { lo: 0, hi: 1000 };
+    let a = Item::Input {
+        lo: sum.lo,
+        hi: 1000,
+    };
     wires.push(wire(alloc, b"a", Kind::Num(Ty::S16, 0), a)?)?;
     let b = Item::Input { lo: -160, hi: 160 };
     wires.push(wire(alloc, b"b", Kind::Num(Ty::S16, 4), b)?)?;
@@ -36,117 +121,57 @@ fn sum_of_inputs(alloc: Global) -> Result<Draft, Fail> {
     });
     wires.push(wire(alloc, b"c", Kind::Num(Ty::S16, 0), c)?)?;
     let s = Item::Block(Block::Arith {
-        op: ArithOp::Add,
-        v: SAME,
+        op: sum.op,
+        v: sum.v,
         x: WireNo(0),
-        y: WireNo(2),
-        z: WireNo(0),
-        sh: 0,
+        y: sum.y,
+        z: sum.z,
+        sh: sum.sh,
     });
-    wires.push(wire(alloc, b"s", Kind::Num(Ty::S16, 0), s)?)?;
-    let outs = vec![in alloc; WireNo(3)]?;
+    wires.push(wire(alloc, sum.name, Kind::Num(Ty::S16, sum.point), s)?)?;
+    let outs = Vec::from_slice(alloc, sum.outs)?;
     Ok(Draft { wires, outs })
+}
+
+fn refusal_of(alloc: Global, sum: Sum) -> Result<Option<NetRefusal>, Fail> {
+    match Network::new(alloc, draft_of(alloc, sum)?) {
+        Ok(_) => Ok(None),
+        Err(refusal) => Ok(Some(refusal)),
+    }
 }
 
 #[test]
 fn makes_a_network(rt: HostRuntime) -> Result<(), Fail> {
-    let net = Network::new(rt.alloc(), sum_of_inputs(rt.alloc())?)?;
+    let net = Network::new(rt.alloc(), draft_of(rt.alloc(), SUM)?)?;
     assert_eq!(rt; net.wires().len(), 4);
+    assert_eq!(rt; net.wires()[2].name.bytes(), b"c".as_slice());
     assert_eq!(rt; net.inputs(), [WireNo(0), WireNo(1)].as_slice());
     assert_eq!(rt; net.outs(), [WireNo(3)].as_slice());
     assert_eq!(rt; net.parts().len(), 4);
-    assert_eq!(rt; net.wires()[2].name.bytes(), b"c".as_slice());
     assert_eq!(rt; net.part_of(WireNo(2), Role::Value), Some(PartNo(2)));
     assert!(rt; net.smooth().is_ok());
-    Ok(())
-}
-
-#[test]
-fn reads_a_text(rt: HostRuntime) -> Result<(), Fail> {
-    let text =
-        b"net 1 # a sum\n\nin x s16 0 4\nconst k s16.07 -3\nwire y s32 = Mfx_Add_s16s16_s32 x k\nwire z s16.12 = Mfx_ConvertP2_s32_s16 y\nout z\nout y\n";
-    let net = read_network(rt.alloc(), text)?;
-    assert_eq!(rt; net.wires().len(), 4);
-    assert_eq!(rt; net.inputs(), [WireNo(0)].as_slice());
-    assert_eq!(rt; net.outs(), [WireNo(3), WireNo(2)].as_slice());
-    Ok(())
-}
-
-// Inputs of five types, and an output.
-const INPUTS: &[u8] =
-    b"net 1\nin a s16 0 9\nin b u16 0 9\nin c u8 0 9\nin d s8 0 9\nin e s32 0 9\nout a\n";
-
-// The fault of a text, if it has one.
-fn fault_of(alloc: Global, text: &[u8]) -> Result<Option<NetKind>, ReadFault>
-    requires { length text.now < 2 ^ 32 }
-{
-    match read_network(alloc, text) {
-        Ok(_) => Ok(None),
-        Err(ReadFault::Fault(fault)) => Ok(Some(fault.kind)),
-        Err(other) => Err(other),
-    }
-}
-
-#[test]
-fn reads_lines_of_arithmetic(rt: HostRuntime) -> Result<(), Fail> {
-    let table: [(&[u8], Option<NetKind>); 16] = [
-        (b"wire w s32 = Mfx_Mul_s16u16_s32 a b", None),
-        (b"wire w s32 = Mfx_MulDiv_s16u16u16_s32 a b b", None),
-        (b"wire w u8 = Mfx_MulShRight_u8s8u8_u8 c d 15", None),
-        (b"wire w u16 = Mfx_Abs_s16_u16 a", None),
-        (b"wire w s16 = Mfx_Limit_s16 a a a", None),
-        (b"wire w s16 = Mfx_RateLimiter_s16 a a b", None),
-        (
-            b"wire w u8 = Mfx_MulShRight_u8s8u8_u8 c d 16",
-            Some(NetKind::OutOfRange),
-        ),
-        (
-            b"wire w u8 = Mfx_DivShLeft_u8s8u8_u8 c d -1",
-            Some(NetKind::OutOfRange),
-        ),
-        (
-            b"wire w u8 = Mfx_MulShRight_u8s8u8_u8 c d c",
-            Some(NetKind::BadNumber),
-        ),
-        (
-            b"wire w u8 = Mfx_MulShRight_u8s8u8_u8 c d",
-            Some(NetKind::BadCount),
-        ),
-        (b"wire w s16 = Mfx_Limit_s16 a a", Some(NetKind::BadCount)),
-        (
-            b"wire w s16 = Mfx_RateLimiter_s16 a a a",
-            Some(NetKind::TypeDiffers),
-        ),
-        (
-            b"wire w u8 = Mfx_MulShRight_u8s8u8_u8 c c 16",
-            Some(NetKind::TypeDiffers),
-        ),
-        (
-            b"wire w s32 = Mfx_MulDiv_s16u16u16_s32 a b z",
-            Some(NetKind::UnknownName),
-        ),
-        (
-            b"wire w s32 = Mfx_MulDiv_s16u16u16_s32 a w z",
-            Some(NetKind::UnknownName),
-        ),
-        (
-            b"wire w s32 = Mfx_MulDiv_s16u16u16_s32 a b w",
-            Some(NetKind::LaterWire),
-        ),
-    ];
-    for (line, want) in table {
-        let mut text = Vec::from_slice(rt.alloc(), INPUTS)?;
-        text.extend_from_slice(line)?;
-        assert!(rt; text.len() < 1000);
-        assert_eq!(rt; fault_of(rt.alloc(), &text)?, want);
+    assert_eq!(rt; net.find(b"c"), Some(WireNo(2)));
+    assert_eq!(rt; net.find(b"t"), None);
+    for (change, wire, kind) in [
+        (Change::NameTwice, 3, NetKind::Repeated),
+        (Change::Remainder, 3, NetKind::NotBuilt),
+        (Change::OwnWire, 3, NetKind::LaterWire),
+        (Change::OtherType, 3, NetKind::TypeDiffers),
+        (Change::OneTooMany, 3, NetKind::TypeDiffers),
+        (Change::ShiftOf16, 3, NetKind::OutOfRange),
+        (Change::NoShift, 3, NetKind::OutOfRange),
+        (Change::Point16, 3, NetKind::OutOfRange),
+        (Change::EmptyRange, 0, NetKind::OutOfRange),
+        (Change::OutputTwice, 4, NetKind::Repeated),
+        (Change::OutputPast, 4, NetKind::LaterWire),
+        (Change::NoOutput, 4, NetKind::Missing),
+    ] {
+        let refusal = refusal_of(rt.alloc(), changed(change))?;
+        assert_eq!(rt;
+            refusal,
+            Some(NetRefusal::At { wire, kind }),
+            "at {change:?}"
+        );
     }
     Ok(())
-}
-
-#[test]
-fn converts(rt: HostRuntime) {
-    let drop_four = Points { a: 4, b: 4, c: 0 };
-    for (count, want) in [(-1, 0), (-16, -1), (-17, -1), (15, 0)] {
-        assert_eq!(rt; convert(SAME, count, drop_four), want, "at {count}");
-    }
 }

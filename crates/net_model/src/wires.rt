@@ -1,7 +1,7 @@
-use crate::first::ScaledOp;
 use crate::naming::Name;
 use fx_core::Ty;
 use mfx_arith::{ArithOp, Variant};
+use mfx_scaled::ScaledOp;
 
 /// The number of a wire, from 0, in the order of the network's text.
 #[derive(Clone, Copy, Debug, PartialEq, Eq)]

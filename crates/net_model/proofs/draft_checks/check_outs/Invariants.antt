@@ -1,7 +1,7 @@
-use Rattle.std.proofs.Common.{◌≡◌}
-use Rattle.net_model.proofs.DraftLemmas.{all_outs, outs_remain}
+use Rattle.std.proofs.Common.{◌≡◌, [], take, drop}
+use Rattle.net_model.specs.Faults.{outs_tested}
 use Rattle.net_model.proofs.draft_checks.check_outs.Given as goal
 
 -- the outputs from here on decide
 abbrev pub invariant-loop-i : goal.invariant-loop-i
-invariant-loop-i l = outs_remain l.count l.outs l.i ≡ all_outs l.count l.outs
+invariant-loop-i l = outs_tested l.count (take l.i l.outs) (drop l.i l.outs) ≡ outs_tested l.count [] l.outs

@@ -1,6 +1,6 @@
 use Rattle.std.proofs.Common.{ap, ◌∙◌}
 use Rattle.std.specs.Prelude.{option_map, position}
-use Rattle.net_model.specs.Faults.{is_part}
+use Rattle.net_model.specs.Wires.{is_part}
 use Rattle.net_model.proofs.NumberingLemmas.{position-parts_of}
 use Rattle.net_model.proofs.network.Network.part_of.Goals as goal
 

@@ -1,5 +1,0 @@
-use Rattle.net_model.proofs.ReadingLaw.{network_of_valid}
-use Rattle.net_model.proofs.reader.law_of_reading.Goals as goal
-
-pub returns : goal.returns
-returns c = network_of_valid

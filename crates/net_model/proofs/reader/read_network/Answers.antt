@@ -1,6 +1,0 @@
-use Rattle.net_model.specs.Drafts.{data_of}
-use Rattle.net_model.proofs.ReadingLaw.{network_of_valid}
-use Rattle.net_model.proofs.reader.read_network.Goals as goal
-
-pub build-requires : goal.build-requires
-build-requires c = network_of_valid c.args.text.now (data_of c.in-Ok.draft) c.in-Ok.ensures
