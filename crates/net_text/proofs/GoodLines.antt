@@ -1,0 +1,530 @@
+-- What a line that has no fault gives: a good wire of a fresh name, or an output that isn't one yet.
+use Rattle.std.proofs.Common.{◌≡◌, ℕ, suc, ◌+◌, ◌-◌, ◌*◌, Bool, true, false, not, ◌&&◌, ◌||◌, ◌==◌, cond, nat_le, nat_lt, List, [], ◌∷◌, length, take, drop, codes, bytes_eq, refl, sym, ap, subst, ◌∙◌, ℤ, pos, negsuc, int_le, Option, Some, None, Result, Ok, Err, arith}
+use Rattle.std.specs.Prelude.{ok_or, is_some, option_map, option_and_then, unsigned_abs, if◌then◌else◌}
+use Rattle.std.specs.Char.{is_ascii_digit}
+use Rattle.std.specs.List.{list_any, position_or_len}
+use Rattle.std.proofs.lemmas.Bool.Decides.{nat_tests}
+use Rattle.text_words.specs.Lines.{nth}
+use Rattle.text_words.specs.Names.{is_name}
+use Rattle.text_words.specs.Steps.{◌>>=◌, demand}
+use Rattle.fx_core.specs.declared.word_type.Ty.{Ty}
+use Rattle.fx_routines.specs.declared.operation.ArithOp.TheVariants.{MulShRight, DivShLeft}
+use Rattle.fx_routines.specs.declared.operation.Variant.{Variant}
+use Rattle.fx_routines.specs.declared.table.Routine.{Routine as Named}
+use Rattle.fx_routines.specs.declared.table.Routine.TheVariants.{Arith as NamedArith, Scaled as NamedScaled, NotBuilt as Unbuilt}
+use Rattle.fx_routines.specs.Reading.{named}
+use Rattle.net_model.specs.declared.network.NetKind.{NetKind}
+use Rattle.net_model.specs.declared.network.NetKind.TheVariants.{BadLine, BadName, Repeated, BadType, UnknownRoutine, NotBuilt, BadCount, UnknownName, LaterWire, TypeDiffers, OutOfRange, TooMany}
+use Rattle.net_model.specs.declared.wires.WireNo.{WireNo}
+use Rattle.net_model.specs.declared.wires.Kind.{Kind}
+use Rattle.net_model.specs.declared.wires.Kind.TheVariants.{Num, Truth}
+use Rattle.net_model.specs.declared.wires.Block.{Block}
+use Rattle.net_model.specs.declared.wires.Item.{Item}
+use Rattle.net_model.specs.declared.wires.Item.TheVariants.{Input, Const, Block as OfBlock}
+use Rattle.net_model.specs.declared.wires.Wire.{Wire}
+use Rattle.net_text.specs.declared.keyword.Keyword.{Keyword}
+use Rattle.net_text.specs.declared.keyword.Keyword.TheVariants.{InLine, ConstLine, AxisLine, AxisStepLine, AxisShiftLine, TableLine, MapLine, WireLine, DelayLine}
+use Rattle.net_text.specs.declared.routine_word.Routine.{Routine}
+use Rattle.net_text.specs.declared.routine_word.Routine.TheVariants.{ArithOf, ScaledOf}
+use Rattle.net_text.specs.declared.routine_word.Arguments.{Arguments}
+use Rattle.net_text.specs.declared.line_forms.Content.{Content}
+use Rattle.net_model.specs.Wires.{place_of}
+use Rattle.net_model.specs.Built.{is_shift}
+use Rattle.net_model.specs.Validity.{is_good_kind, kind_holds, agrees, is_earlier, type_read, is_built_item, item_reads_earlier, item_agrees, item_in_range}
+use Rattle.net_text.specs.TypeWords.{ty_of, ty_len, one_digit, two_digits, digit_value, point_of_word, number_kind_of, kind_of}
+use Rattle.net_text.specs.RoutineWords.{is_built_routine, built_at, routine_at, arity_of, is_shifting, block_of}
+use Rattle.net_text.specs.Forms.{keyword_of, is_wire, are_known, axis_passes, is_type, is_narrow, argument_at, arguments_of, places_at, shift_of, words_wanted, reached, fresh, has_room, number_at, range_of, value_of, kind_at, agreed, in_line, const_line, wire_line, unbuilt_line, line_of, is_known, is_output, out_line, defining_line}
+
+-- ---- tests
+
+-- how a chain of tests is built and taken apart
+pub true_if_both : (a b : Bool) → a ≡ true → b ≡ true → (a && b) ≡ true
+true_if_both true true p q = refl
+true_if_both true false p q = q
+true_if_both false b p q = p
+
+pub first_of_both : (a b : Bool) → (a && b) ≡ true → a ≡ true
+first_of_both true b h = refl
+first_of_both false b h = h
+
+pub second_of_both : (a b : Bool) → (a && b) ≡ true → b ≡ true
+second_of_both true b h = h
+second_of_both false true h = refl
+second_of_both false false h = h
+
+not_true : (a : Bool) → not a ≡ true → a ≡ false
+not_true true h = sym h
+not_true false h = refl
+
+-- what passes a test has it
+pub demand_ok : (test : Bool) (kind : NetKind) (done : Unit {0}) → demand test kind ≡ Ok done → test ≡ true
+demand_ok true kind done h = refl
+demand_ok false kind done h = cc
+
+-- what is found is there
+ok_or_ok : {A : Type 0} (found : Option A) (kind : NetKind) (value : A) → ok_or found kind ≡ Ok value → found ≡ Some value
+ok_or_ok (Some x) kind value h = let same : x ≡ value = cc in ap (λ v. Some v) same
+ok_or_ok None kind value h = cc
+
+-- ---- names
+
+-- the first place that passes lies within exactly where some element passes
+suc_below : (k n : ℕ) → nat_lt (1 + k) (suc n) ≡ nat_lt k n
+suc_below k n = grind (arith, nat_tests)
+
+-- one more element in front
+position_step : (b more : Bool) (k n : ℕ) → nat_lt k n ≡ more → nat_lt (cond (not b) (1 + k) 0) (suc n) ≡ (b || more)
+position_step true more k n h = grind (arith, nat_tests)
+position_step false more k n h = suc_below k n ∙ h
+
+position_within : {X : Type 0} (p : X → Bool) (xs : List X) → nat_lt (position_or_len p xs) (length xs) ≡ list_any p xs
+position_within p [] = refl
+position_within p (x ∷ xs) =
+    position_step (p x) (list_any p xs) (position_or_len p xs) (length xs) (position_within p xs)
+
+-- a place is given exactly where it lies within
+is_some_place : (b : Bool) (k : ℕ) → is_some (cond b (Some k) None) ≡ b
+is_some_place true k = refl
+is_some_place false k = refl
+
+-- a name is a wire exactly where some wire has it
+pub is_wire-named : (wires : List Wire) (name : List ℕ) → is_wire wires name ≡ list_any (λ w. bytes_eq w.name name) wires
+unfolding place_of
+is_wire-named wires name =
+    is_some_place (nat_lt (position_or_len (λ w. bytes_eq w.name name) wires) (length wires)) (position_or_len (λ w. bytes_eq w.name name) wires)
+    ∙ position_within (λ w. bytes_eq w.name name) wires
+
+-- a place that is given lies within
+place_below : (b : Bool) (k place : ℕ) → cond b (Some k) None ≡ Some place → (b ≡ true) × (k ≡ place)
+place_below true k place h = let same : k ≡ place = cc in (refl, same)
+place_below false k place h = cc
+
+-- the place of a name lies within the wires
+pub place_within : (wires : List Wire) (name : List ℕ) (place : ℕ) → place_of wires name ≡ Some place → nat_lt place (length wires) ≡ true
+unfolding place_of
+place_within wires name place h =
+    let k = position_or_len (λ w. bytes_eq w.name name) wires in
+    let p = place_below (nat_lt k (length wires)) k place h in
+    subst (λ n. nat_lt n (length wires) ≡ true) p.1 p.0
+
+-- ---- types
+
+-- a good binary point
+one_digit_good : (a point : ℕ) → one_digit a ≡ Some point → nat_le point 15 ≡ true
+one_digit_good a point h =
+    let found = place_below (is_ascii_digit a) (digit_value a) point h in
+    let most : nat_le a 57 ≡ true = second_of_both (nat_le 48 a) (nat_le a 57) found.0 in
+    let small : nat_le (a - 48) 15 ≡ true = grind (arith, nat_tests) in
+    subst (λ p. nat_le p 15 ≡ true) found.1 small
+
+-- of two digits
+two_digits_good : (a b point : ℕ) → two_digits a b ≡ Some point → nat_le point 15 ≡ true
+two_digits_good a b point h =
+    let value = 10 * digit_value a + digit_value b in
+    let found = place_below (is_ascii_digit a && is_ascii_digit b && nat_le value 15) value point h in
+    subst (λ p. nat_le p 15 ≡ true) found.1 (second_of_both (is_ascii_digit a && is_ascii_digit b) (nat_le value 15) found.0)
+
+-- of a whole word
+point_good : (word : List ℕ) (point : ℕ) → point_of_word word ≡ Some point → nat_le point 15 ≡ true
+unfolding point_of_word
+point_good [] point h = let same : 0 ≡ point = cc in subst (λ p. nat_le p 15 ≡ true) same refl
+point_good (mark ∷ []) point h = cc
+point_good (mark ∷ a ∷ []) point h = one_digit_good a point h
+point_good (mark ∷ a ∷ b ∷ []) point h = two_digits_good a b point h
+point_good (mark ∷ a ∷ b ∷ c ∷ more) point h = cc
+
+-- a number type with such a point is a good kind
+num_good : (ty : Option Ty) (point : Option ℕ) (kind : Kind) → ((p : ℕ) → point ≡ Some p → nat_le p 15 ≡ true) → option_and_then (λ t. option_map (λ p. Num t p) point) ty ≡ Some kind → is_good_kind kind ≡ true
+num_good None point kind good h = cc
+num_good (Some ty) None kind good h = cc
+num_good (Some ty) (Some p) kind good h =
+    let same : Num ty p ≡ kind = cc in subst (λ k. is_good_kind k ≡ true) same (good p refl)
+
+-- so is `bool`
+bool_or_number : (b : Bool) (number : Option Kind) (kind : Kind) → ((k : Kind) → number ≡ Some k → is_good_kind k ≡ true) → cond b (Some Truth) number ≡ Some kind → is_good_kind kind ≡ true
+bool_or_number true number kind good h = let same : Truth ≡ kind = cc in subst (λ k. is_good_kind k ≡ true) same refl
+bool_or_number false number kind good h = good kind h
+
+-- a type word names a good kind
+pub kind_good : (word : List ℕ) (kind : Kind) → kind_of word ≡ Some kind → is_good_kind kind ≡ true
+unfolding kind_of number_kind_of
+kind_good word kind h =
+    bool_or_number (bytes_eq word (codes "bool")) (option_and_then (λ t. option_map (λ p. Num t p) (point_of_word (drop (ty_len word) word))) (ty_of (take (ty_len word) word))) kind (λ k e. num_good (ty_of (take (ty_len word) word)) (point_of_word (drop (ty_len word) word)) k (point_good (drop (ty_len word) word)) e) h
+
+-- ---- routines
+
+-- the routine that was found is built
+if_built_gives : (r routine : Routine) (built : Bool) → is_built_routine r ≡ built → ◌≡◌ {A = Result Routine NetKind} (cond built (Ok r) (Err NotBuilt)) (Ok routine) → is_built_routine routine ≡ true
+if_built_gives r routine true e h = let same : r ≡ routine = cc in subst (λ s. is_built_routine s ≡ true) same e
+if_built_gives r routine false e h = cc
+
+built_at_gives : (named : Named) (v : Variant) (routine : Routine) → built_at named v ≡ Ok routine → is_built_routine routine ≡ true
+built_at_gives (NamedArith op) v routine h = if_built_gives (ArithOf op v) routine (is_built_routine (ArithOf op v)) refl h
+built_at_gives (NamedScaled op) v routine h = if_built_gives (ScaledOf op v) routine (is_built_routine (ScaledOf op v)) refl h
+built_at_gives Unbuilt v routine h = cc
+
+built_tests : (found : Result (Named × Variant) NetKind) (routine : Routine) → (found >>= λ r. built_at r.0 r.1) ≡ Ok routine → is_built_routine routine ≡ true
+built_tests (Err fault) routine h = cc
+built_tests (Ok r) routine h = built_at_gives r.0 r.1 routine h
+
+-- a name is read as a routine that is built
+routine_built : (word : List ℕ) (routine : Routine) → routine_at word ≡ Ok routine → is_built_routine routine ≡ true
+unfolding routine_at
+routine_built word routine h = built_tests (ok_or (named word) UnknownRoutine) routine h
+
+-- ---- forms
+
+-- an item that is good behind these wires, in a wire of this kind
+pub record IsGoodItem (wires : List Wire) (kind : Kind) (item : Item) : Type 0 where
+  pub built : is_built_item item ≡ true
+  pub earlier : item_reads_earlier (length wires) item ≡ true
+  pub agreed : item_agrees wires kind item ≡ true
+  pub in_range : item_in_range kind item ≡ true
+
+-- what a line gives a wire that is good behind the wires above, with a name that none of them has
+pub record IsGood (wires : List Wire) (name : List ℕ) (content : Content) : Type 0 where
+  pub named : is_name name ≡ true
+  pub fresh : is_wire wires name ≡ false
+  pub room : nat_lt (length wires) 512 ≡ true
+  pub kind : is_good_kind content.kind ≡ true
+  pub item : IsGoodItem wires content.kind content.item
+
+-- a name that no wire above has
+record IsFresh (wires : List Wire) (name : List ℕ) : Type 0 where
+  named : is_name name ≡ true
+  fresh : is_wire wires name ≡ false
+
+-- both tests of a name
+fresh_tests : (named new : Bool) (done : Unit {0}) → (demand named BadName >>= λ _. demand (not new) Repeated) ≡ Ok done → (named ≡ true) × (new ≡ false)
+fresh_tests true new done h = (refl, not_true new (demand_ok (not new) Repeated done h))
+fresh_tests false new done h = cc
+
+-- a name that passes is one, and no wire has it
+fresh_ok : (wires : List Wire) (name : List ℕ) (done : Unit {0}) → fresh wires name ≡ Ok done → IsFresh wires name
+unfolding fresh
+fresh_ok wires name done h =
+    let p = fresh_tests (is_name name) (is_wire wires name) done h in record { named = p.0; fresh = p.1 }
+
+-- an input's range, and a constant, are good in their kind
+range_in : (wires : List Wire) (kind : Kind) (lo hi : ℤ) (test : Bool) (item : Item) → (kind_holds kind lo && kind_holds kind hi && int_le lo hi) ≡ test → (demand test OutOfRange >>= λ _. Ok (Input lo hi)) ≡ Ok item → IsGoodItem wires kind item
+range_in wires kind lo hi true item e h =
+    let same : Input lo hi ≡ item = cc in
+    let good : IsGoodItem wires kind (Input lo hi) = record { built = refl; earlier = refl; agreed = refl; in_range = e } in
+    subst (λ x. IsGoodItem wires kind x) same good
+range_in wires kind lo hi false item e h = cc
+
+-- both numbers are there
+range_tests : (wires : List Wire) (kind : Kind) (low high : Result ℤ NetKind) (item : Item) → (low >>= λ lo. high >>= λ hi. demand (kind_holds kind lo && kind_holds kind hi && int_le lo hi) OutOfRange >>= λ _. Ok (Input lo hi)) ≡ Ok item → IsGoodItem wires kind item
+range_tests wires kind (Err fault) high item h = cc
+range_tests wires kind (Ok lo) (Err fault) item h = cc
+range_tests wires kind (Ok lo) (Ok hi) item h =
+    range_in wires kind lo hi (kind_holds kind lo && kind_holds kind hi && int_le lo hi) item refl h
+
+-- the range of an input is good
+range_good : (wires : List Wire) (kind : Kind) (low high : List ℕ) (item : Item) → range_of kind low high ≡ Ok item → IsGoodItem wires kind item
+unfolding range_of
+range_good wires kind low high item h = range_tests wires kind (number_at low) (number_at high) item h
+
+-- the value lies in its kind
+value_in : (wires : List Wire) (kind : Kind) (value : ℤ) (test : Bool) (item : Item) → kind_holds kind value ≡ test → (demand test OutOfRange >>= λ _. Ok (Const value)) ≡ Ok item → IsGoodItem wires kind item
+value_in wires kind value true item e h =
+    let same : Const value ≡ item = cc in
+    let good : IsGoodItem wires kind (Const value) = record { built = refl; earlier = refl; agreed = refl; in_range = e } in
+    subst (λ x. IsGoodItem wires kind x) same good
+value_in wires kind value false item e h = cc
+
+-- the number is there
+value_tests : (wires : List Wire) (kind : Kind) (number : Result ℤ NetKind) (item : Item) → (number >>= λ value. demand (kind_holds kind value) OutOfRange >>= λ _. Ok (Const value)) ≡ Ok item → IsGoodItem wires kind item
+value_tests wires kind (Err fault) item h = cc
+value_tests wires kind (Ok value) item h = value_in wires kind value (kind_holds kind value) item refl h
+
+-- the value of a constant is good
+value_good : (wires : List Wire) (kind : Kind) (word : List ℕ) (item : Item) → value_of kind word ≡ Ok item → IsGoodItem wires kind item
+unfolding value_of
+value_good wires kind word item h = value_tests wires kind (number_at word) item h
+
+-- an input's line and a constant's have one shape
+content_end : (wires : List Wire) (name : List ℕ) (room : Result (Unit {0}) NetKind) (kind : Kind) (item : Result Item NetKind) (content : Content) → IsFresh wires name → is_good_kind kind ≡ true → ((x : Item) → item ≡ Ok x → IsGoodItem wires kind x) → ((done : Unit {0}) → room ≡ Ok done → nat_lt (length wires) 512 ≡ true) → (item >>= λ x. room >>= λ _. Ok (record { kind = kind; item = x })) ≡ Ok content → IsGood wires name content
+content_end wires name room kind (Err fault) content new good i r h = cc
+content_end wires name (Err fault) kind (Ok item) content new good i r h = cc
+content_end wires name (Ok done) kind (Ok item) content new good i r h =
+    let made : Content = record { kind = kind; item = item } in
+    let same : made ≡ content = cc in
+    let first : IsGood wires name made = record { named = new.named; fresh = new.fresh; room = r done refl; kind = good; item = i item refl } in
+    subst (λ c. IsGood wires name c) same first
+
+-- from the front on
+content_tests : (wires : List Wire) (name : List ℕ) (form new room : Result (Unit {0}) NetKind) (kind : Result Kind NetKind) (item : Kind → Result Item NetKind) (content : Content) → ((done : Unit {0}) → new ≡ Ok done → IsFresh wires name) → ((k : Kind) → kind ≡ Ok k → is_good_kind k ≡ true) → ((k : Kind) (x : Item) → item k ≡ Ok x → IsGoodItem wires k x) → ((done : Unit {0}) → room ≡ Ok done → nat_lt (length wires) 512 ≡ true) → (form >>= λ _. new >>= λ _. kind >>= λ k. item k >>= λ x. room >>= λ _. Ok (record { kind = k; item = x })) ≡ Ok content → IsGood wires name content
+content_tests wires name (Err fault) new room kind item content f g i r h = cc
+content_tests wires name (Ok _) (Err fault) room kind item content f g i r h = cc
+content_tests wires name (Ok _) (Ok new) room (Err fault) item content f g i r h = cc
+content_tests wires name (Ok _) (Ok new) room (Ok kind) item content f g i r h =
+    content_end wires name room kind (item kind) content (f new refl) (g kind refl) (λ x e. i kind x e) r h
+
+-- an input gives a good wire
+in_good : (wires : List Wire) (words : List (List ℕ)) (content : Content) → in_line wires words ≡ Ok content → IsGood wires (nth words 1) content
+unfolding in_line
+in_good wires words content h =
+    content_tests wires (nth words 1) (demand (length words == 5) BadLine) (fresh wires (nth words 1)) (has_room wires) (kind_at (nth words 2)) (λ k. range_of k (nth words 3) (nth words 4)) content (λ done e. fresh_ok wires (nth words 1) done e) (λ k e. kind_good (nth words 2) k (ok_or_ok (kind_of (nth words 2)) BadType k e)) (λ k x e. range_good wires k (nth words 3) (nth words 4) x e) (λ done e. demand_ok (nat_lt (length wires) 512) TooMany done e) h
+
+-- a constant gives a good wire
+const_good : (wires : List Wire) (words : List (List ℕ)) (content : Content) → const_line wires words ≡ Ok content → IsGood wires (nth words 1) content
+unfolding const_line
+const_good wires words content h =
+    content_tests wires (nth words 1) (demand (length words == 4) BadLine) (fresh wires (nth words 1)) (has_room wires) (kind_at (nth words 2)) (λ k. value_of k (nth words 3)) content (λ done e. fresh_ok wires (nth words 1) done e) (λ k e. kind_good (nth words 2) k (ok_or_ok (kind_of (nth words 2)) BadType k e)) (λ k x e. value_good wires k (nth words 3) x e) (λ done e. demand_ok (nat_lt (length wires) 512) TooMany done e) h
+
+-- ---- a block
+
+-- the wires that a line gives its routine stand before it
+record AreGiven (wires : List Wire) (given : Arguments) : Type 0 where
+  x_below : nat_lt given.x.0 (length wires) ≡ true
+  y_below : nat_lt given.y.0 (length wires) ≡ true
+  z_below : nat_lt given.z.0 (length wires) ≡ true
+
+-- what is found twice is one
+same_found : (m n : ℕ) → ◌≡◌ {A = Result ℕ NetKind} (Ok m) (Ok n) → m ≡ n
+same_found m n h = cc
+
+-- all three are found
+arguments_made : (wires : List Wire) (x y z : Result ℕ NetKind) (given : Arguments) → ((m : ℕ) → x ≡ Ok m → nat_lt m (length wires) ≡ true) → ((m : ℕ) → y ≡ Ok m → nat_lt m (length wires) ≡ true) → ((m : ℕ) → z ≡ Ok m → nat_lt m (length wires) ≡ true) → (x >>= λ k. y >>= λ m. z >>= λ n. Ok (record { x = record { 0 = k }; y = record { 0 = m }; z = record { 0 = n } })) ≡ Ok given → AreGiven wires given
+arguments_made wires (Err fault) y z given bx by bz h = cc
+arguments_made wires (Ok k) (Err fault) z given bx by bz h = cc
+arguments_made wires (Ok k) (Ok m) (Err fault) given bx by bz h = cc
+arguments_made wires (Ok k) (Ok m) (Ok n) given bx by bz h =
+    let made : Arguments = record { x = record { 0 = k }; y = record { 0 = m }; z = record { 0 = n } } in
+    let same : made ≡ given = cc in
+    let first : AreGiven wires made = record { x_below = bx k refl; y_below = by m refl; z_below = bz n refl } in
+    subst (λ g. AreGiven wires g) same first
+
+-- a wire that is reached is there
+reached_below : (wires : List Wire) (name : List ℕ) (place : ℕ) → reached wires name ≡ Ok place → nat_lt place (length wires) ≡ true
+reached_below wires name place h = place_within wires name place (ok_or_ok (place_of wires name) LaterWire place h)
+
+-- a line's arguments are there
+arguments_good : (wires : List Wire) (routine : Routine) (words : List (List ℕ)) (given : Arguments) → arguments_of wires routine words ≡ Ok given → AreGiven wires given
+unfolding arguments_of
+arguments_good wires routine words given h =
+    arguments_made wires (reached wires (argument_at routine words 0)) (reached wires (argument_at routine words 1)) (reached wires (argument_at routine words 2)) given (reached_below wires (argument_at routine words 0)) (reached_below wires (argument_at routine words 1)) (reached_below wires (argument_at routine words 2)) h
+
+-- a count of places is at most 15
+small_places : (z : ℤ) → (int_le (pos 0) z && int_le z (pos 15)) ≡ true → nat_le (unsigned_abs z) 15 ≡ true
+small_places (pos n) h = second_of_both (int_le (pos 0) (pos n)) (int_le (pos n) (pos 15)) h
+small_places (negsuc n) h = cc
+
+places_in : (z : ℤ) (test : Bool) (sh : ℕ) → (int_le (pos 0) z && int_le z (pos 15)) ≡ test → (demand test OutOfRange >>= λ _. Ok (unsigned_abs z)) ≡ Ok sh → nat_le sh 15 ≡ true
+places_in z true sh e h = subst (λ n. nat_le n 15 ≡ true) (same_found (unsigned_abs z) sh h) (small_places z e)
+places_in z false sh e h = cc
+
+places_tests : (number : Result ℤ NetKind) (sh : ℕ) → (number >>= λ z. demand (int_le (pos 0) z && int_le z (pos 15)) OutOfRange >>= λ _. Ok (unsigned_abs z)) ≡ Ok sh → nat_le sh 15 ≡ true
+places_tests (Err fault) sh h = cc
+places_tests (Ok z) sh h = places_in z (int_le (pos 0) z && int_le z (pos 15)) sh refl h
+
+places_good : (word : List ℕ) (sh : ℕ) → places_at word ≡ Ok sh → nat_le sh 15 ≡ true
+unfolding places_at
+places_good word sh h = places_tests (number_at word) sh h
+
+-- a count of places is one of the routine
+abbrev pub has_places : Routine → ℕ → Bool
+has_places (ArithOf op v) sh = is_shift op sh
+has_places (ScaledOf op v) sh = true
+
+no_places : (sh : ℕ) → ◌≡◌ {A = Result ℕ NetKind} (Ok 0) (Ok sh) → (sh == 0) ≡ true
+no_places sh h = subst (λ n. (n == 0) ≡ true) (same_found 0 sh h) refl
+
+shift_tests : (routine : Routine) (found : Result ℕ NetKind) (sh : ℕ) → ((n : ℕ) → found ≡ Ok n → nat_le n 15 ≡ true) → (if is_shifting routine then found else Ok 0) ≡ Ok sh → has_places routine sh ≡ true
+shift_tests (ArithOf MulShRight v) found sh few h = few sh h
+shift_tests (ArithOf DivShLeft v) found sh few h = few sh h
+shift_tests (ArithOf other v) found sh few h = no_places sh h
+shift_tests (ScaledOf op v) found sh few h = refl
+
+shift_good : (routine : Routine) (words : List (List ℕ)) (sh : ℕ) → shift_of routine words ≡ Ok sh → has_places routine sh ≡ true
+unfolding shift_of
+shift_good routine words sh h =
+    shift_tests routine (places_at (nth words (5 + arity_of routine))) sh (places_good (nth words (5 + arity_of routine))) h
+
+-- an argument below is earlier, where the routine has it and where it doesn't
+earlier_below : (i a : ℕ) (ty : Option Ty) → nat_lt a i ≡ true → is_earlier i ty a ≡ true
+earlier_below i a (Some ty) below = below
+earlier_below i a None below = refl
+
+-- a block of earlier wires that agrees with them, with a count of places of its routine, is good
+block_good : (wires : List Wire) (routine : Routine) (kind : Kind) (given : Arguments) (sh : ℕ) → is_built_routine routine ≡ true → AreGiven wires given → agrees wires kind (block_of routine given 0) ≡ true → has_places routine sh ≡ true → IsGoodItem wires kind (OfBlock (block_of routine given sh))
+block_good wires (ArithOf op v) kind given sh built g typed places =
+    let b = block_of (ArithOf op v) given sh in
+    record {
+      built = built;
+      earlier = true_if_both _ _ (true_if_both _ _ (earlier_below _ given.x.0 (type_read b 0) g.x_below) (earlier_below _ given.y.0 (type_read b 1) g.y_below)) (earlier_below _ given.z.0 (type_read b 2) g.z_below);
+      agreed = typed;
+      in_range = places;
+    }
+block_good wires (ScaledOf op v) kind given sh built g typed places =
+    let b = block_of (ScaledOf op v) given sh in
+    record {
+      built = refl;
+      earlier = true_if_both _ _ (true_if_both _ _ (earlier_below _ given.x.0 (type_read b 0) g.x_below) (earlier_below _ given.y.0 (type_read b 1) g.y_below)) (earlier_below _ given.x.0 (type_read b 2) g.x_below);
+      agreed = typed;
+      in_range = refl;
+    }
+
+-- the kind of the type word, which agrees with the block
+record IsAgreed (wires : List Wire) (block : Block) (word : List ℕ) (kind : Kind) : Type 0 where
+  found : kind_of word ≡ Some kind
+  typed : agrees wires kind block ≡ true
+
+-- the types agree
+agreed_end : (wires : List Wire) (block : Block) (word : List ℕ) (k kind : Kind) (test : Bool) → kind_of word ≡ Some k → agrees wires k block ≡ test → (demand test TypeDiffers >>= λ _. Ok k) ≡ Ok kind → IsAgreed wires block word kind
+agreed_end wires block word k kind true e t h =
+    let same : k ≡ kind = cc in
+    let first : IsAgreed wires block word k = record { found = e; typed = t } in
+    subst (λ x. IsAgreed wires block word x) same first
+agreed_end wires block word k kind false e t h = cc
+
+-- the type is one of a number
+agreed_tests : (wires : List Wire) (block : Block) (word : List ℕ) (found : Option Kind) (kind : Kind) → kind_of word ≡ found → (ok_or found TypeDiffers >>= λ k. demand (agrees wires k block) TypeDiffers >>= λ _. Ok k) ≡ Ok kind → IsAgreed wires block word kind
+agreed_tests wires block word None kind e h = cc
+agreed_tests wires block word (Some k) kind e h = agreed_end wires block word k kind (agrees wires k block) e refl h
+
+-- the type that a wire names is the one that its block gives
+agreed_good : (wires : List Wire) (block : Block) (word : List ℕ) (kind : Kind) → agreed wires block word ≡ Ok kind → IsAgreed wires block word kind
+unfolding agreed
+agreed_good wires block word kind h = agreed_tests wires block word (kind_of word) kind refl h
+
+-- what a wire's line uses: a routine that is built, earlier wires, a type that agrees and a count of places
+record IsUsed (wires : List Wire) (routine : Routine) (word : List ℕ) (kind : Kind) (given : Arguments) (sh : ℕ) : Type 0 where
+  built : is_built_routine routine ≡ true
+  earlier : AreGiven wires given
+  typed : IsAgreed wires (block_of routine given 0) word kind
+  places : has_places routine sh ≡ true
+
+-- from the count of places on
+wire_made : (wires : List Wire) (name word : List ℕ) (routine : Routine) (given : Arguments) (k : Kind) (shift : Result ℕ NetKind) (room : Result (Unit {0}) NetKind) (content : Content) → IsFresh wires name → ((sh : ℕ) → shift ≡ Ok sh → IsUsed wires routine word k given sh) → ((done : Unit {0}) → room ≡ Ok done → nat_lt (length wires) 512 ≡ true) → (shift >>= λ sh. room >>= λ _. Ok (record { kind = k; item = OfBlock (block_of routine given sh) })) ≡ Ok content → IsGood wires name content
+wire_made wires name word routine given k (Err fault) room content new used r h = cc
+wire_made wires name word routine given k (Ok sh) (Err fault) content new used r h = cc
+wire_made wires name word routine given k (Ok sh) (Ok done) content new used r h =
+    let u = used sh refl in
+    let made : Content = record { kind = k; item = OfBlock (block_of routine given sh) } in
+    let same : made ≡ content = cc in
+    let first : IsGood wires name made = record {
+      named = new.named;
+      fresh = new.fresh;
+      room = r done refl;
+      kind = kind_good word k u.typed.found;
+      item = block_good wires routine k given sh u.built u.earlier u.typed.typed u.places;
+    } in
+    subst (λ c. IsGood wires name c) same first
+
+-- from the arguments on
+wire_typed : (wires : List Wire) (name word : List ℕ) (routine : Routine) (given : Arguments) (typed : Result Kind NetKind) (shift : Result ℕ NetKind) (room : Result (Unit {0}) NetKind) (content : Content) → IsFresh wires name → ((k : Kind) (sh : ℕ) → typed ≡ Ok k → shift ≡ Ok sh → IsUsed wires routine word k given sh) → ((done : Unit {0}) → room ≡ Ok done → nat_lt (length wires) 512 ≡ true) → (typed >>= λ k. shift >>= λ sh. room >>= λ _. Ok (record { kind = k; item = OfBlock (block_of routine given sh) })) ≡ Ok content → IsGood wires name content
+wire_typed wires name word routine given (Err fault) shift room content new used r h = cc
+wire_typed wires name word routine given (Ok k) shift room content new used r h =
+    wire_made wires name word routine given k shift room content new (λ sh. used k sh refl) r h
+
+-- from the routine on
+wire_end : (wires : List Wire) (name word : List ℕ) (routine : Routine) (count known axis : Result (Unit {0}) NetKind) (found : Result Arguments NetKind) (typed : Arguments → Result Kind NetKind) (shift : Result ℕ NetKind) (room : Result (Unit {0}) NetKind) (content : Content) → IsFresh wires name → ((given : Arguments) (k : Kind) (sh : ℕ) → found ≡ Ok given → typed given ≡ Ok k → shift ≡ Ok sh → IsUsed wires routine word k given sh) → ((done : Unit {0}) → room ≡ Ok done → nat_lt (length wires) 512 ≡ true) → (count >>= λ _. known >>= λ _. axis >>= λ _. found >>= λ given. typed given >>= λ k. shift >>= λ sh. room >>= λ _. Ok (record { kind = k; item = OfBlock (block_of routine given sh) })) ≡ Ok content → IsGood wires name content
+wire_end wires name word routine (Err fault) known axis found typed shift room content new used r h = cc
+wire_end wires name word routine (Ok _) (Err fault) axis found typed shift room content new used r h = cc
+wire_end wires name word routine (Ok _) (Ok _) (Err fault) found typed shift room content new used r h = cc
+wire_end wires name word routine (Ok _) (Ok _) (Ok _) (Err fault) typed shift room content new used r h = cc
+wire_end wires name word routine (Ok _) (Ok _) (Ok _) (Ok given) typed shift room content new used r h =
+    wire_typed wires name word routine given (typed given) shift room content new (λ k sh. used given k sh refl) r h
+
+-- up to the routine
+wire_tests : (wires : List Wire) (name word : List ℕ) (form new type : Result (Unit {0}) NetKind) (found : Result Routine NetKind) (count known : Routine → Result (Unit {0}) NetKind) (axis : Result (Unit {0}) NetKind) (arguments : Routine → Result Arguments NetKind) (typed : Routine → Arguments → Result Kind NetKind) (shift : Routine → Result ℕ NetKind) (room : Result (Unit {0}) NetKind) (content : Content) → ((done : Unit {0}) → new ≡ Ok done → IsFresh wires name) → ((routine : Routine) (given : Arguments) (k : Kind) (sh : ℕ) → found ≡ Ok routine → arguments routine ≡ Ok given → typed routine given ≡ Ok k → shift routine ≡ Ok sh → IsUsed wires routine word k given sh) → ((done : Unit {0}) → room ≡ Ok done → nat_lt (length wires) 512 ≡ true) → (form >>= λ _. new >>= λ _. type >>= λ _. found >>= λ routine. count routine >>= λ _. known routine >>= λ _. axis >>= λ _. arguments routine >>= λ given. typed routine given >>= λ k. shift routine >>= λ sh. room >>= λ _. Ok (record { kind = k; item = OfBlock (block_of routine given sh) })) ≡ Ok content → IsGood wires name content
+wire_tests wires name word (Err fault) new type found count known axis arguments typed shift room content f used r h = cc
+wire_tests wires name word (Ok _) (Err fault) type found count known axis arguments typed shift room content f used r h = cc
+wire_tests wires name word (Ok _) (Ok new) (Err fault) found count known axis arguments typed shift room content f used r h = cc
+wire_tests wires name word (Ok _) (Ok new) (Ok _) (Err fault) count known axis arguments typed shift room content f used r h = cc
+wire_tests wires name word (Ok _) (Ok new) (Ok _) (Ok routine) count known axis arguments typed shift room content f used r h =
+    wire_end wires name word routine (count routine) (known routine) axis (arguments routine) (typed routine) (shift routine) room content (f new refl) (λ given k sh. used routine given k sh refl) r h
+
+-- what a wire's line uses is there and of its types
+used_good : (wires : List Wire) (words : List (List ℕ)) (routine : Routine) (given : Arguments) (k : Kind) (sh : ℕ) → routine_at (nth words 4) ≡ Ok routine → arguments_of wires routine words ≡ Ok given → agreed wires (block_of routine given 0) (nth words 2) ≡ Ok k → shift_of routine words ≡ Ok sh → IsUsed wires routine (nth words 2) k given sh
+used_good wires words routine given k sh found arguments typed shift =
+    record {
+      built = routine_built (nth words 4) routine found;
+      earlier = arguments_good wires routine words given arguments;
+      typed = agreed_good wires (block_of routine given 0) (nth words 2) k typed;
+      places = shift_good routine words sh shift;
+    }
+
+-- a wire of a routine is good
+wire_good : (lines : List (List ℕ)) (wires : List Wire) (words : List (List ℕ)) (content : Content) → wire_line lines wires words ≡ Ok content → IsGood wires (nth words 1) content
+unfolding wire_line
+wire_good lines wires words content h =
+    wire_tests wires (nth words 1) (nth words 2) (demand (nat_le 6 (length words) && bytes_eq (nth words 3) (codes "=")) BadLine) (fresh wires (nth words 1)) (demand (is_type (nth words 2)) BadType) (routine_at (nth words 4)) (λ routine. demand (length words == words_wanted routine) BadCount) (λ routine. demand (are_known lines wires routine words) UnknownName) (demand (axis_passes (is_wire wires) (nth words 2)) LaterWire) (λ routine. arguments_of wires routine words) (λ routine given. agreed wires (block_of routine given 0) (nth words 2)) (λ routine. shift_of routine words) (has_room wires) content (λ done e. fresh_ok wires (nth words 1) done e) (λ routine given k sh. used_good wires words routine given k sh) (λ done e. demand_ok (nat_lt (length wires) 512) TooMany done e) h
+
+-- ---- a line that isn't built
+
+-- it gives nothing
+unbuilt_tests : (wires : List Wire) (name : List ℕ) (form new type : Result (Unit {0}) NetKind) (content : Content) → (form >>= λ _. new >>= λ _. type >>= λ _. Err NotBuilt) ≡ Ok content → IsGood wires name content
+unbuilt_tests wires name (Err fault) new type content h = cc
+unbuilt_tests wires name (Ok _) (Err fault) type content h = cc
+unbuilt_tests wires name (Ok _) (Ok _) (Err fault) content h = cc
+unbuilt_tests wires name (Ok _) (Ok _) (Ok _) content h = cc
+
+unbuilt_good : (has_form has_type : Bool) (wires : List Wire) (words : List (List ℕ)) (content : Content) → unbuilt_line has_form has_type wires words ≡ Ok content → IsGood wires (nth words 1) content
+unfolding unbuilt_line
+unbuilt_good has_form has_type wires words content h =
+    unbuilt_tests wires (nth words 1) (demand has_form BadLine) (fresh wires (nth words 1)) (demand has_type BadType) content h
+
+-- ---- any line that defines a wire
+
+-- whichever keyword the line has
+line_good : (keyword : Keyword) (lines : List (List ℕ)) (wires : List Wire) (words : List (List ℕ)) (content : Content) → line_of keyword lines wires words ≡ Ok content → IsGood wires (nth words 1) content
+unfolding line_of
+line_good InLine lines wires words content h = in_good wires words content h
+line_good ConstLine lines wires words content h = const_good wires words content h
+line_good AxisLine lines wires words content h =
+    unbuilt_good (nat_le 4 (length words)) (is_narrow (ty_of (nth words 2))) wires words content h
+line_good AxisStepLine lines wires words content h =
+    unbuilt_good (length words == 6) (is_narrow (ty_of (nth words 2))) wires words content h
+line_good AxisShiftLine lines wires words content h =
+    unbuilt_good (length words == 6) (is_narrow (ty_of (nth words 2))) wires words content h
+line_good TableLine lines wires words content h =
+    unbuilt_good (nat_le 4 (length words)) (is_narrow (ty_of (nth words 2))) wires words content h
+line_good MapLine lines wires words content h =
+    unbuilt_good (nat_le 5 (length words)) (is_narrow (ty_of (nth words 2))) wires words content h
+line_good WireLine lines wires words content h = wire_good lines wires words content h
+line_good DelayLine lines wires words content h =
+    unbuilt_good ((length words == 6) && bytes_eq (nth words 4) (codes "=")) (is_type (nth words 2)) wires words content h
+
+-- the line has one
+by_keyword : (found : Result Keyword NetKind) (lines : List (List ℕ)) (wires : List Wire) (words : List (List ℕ)) (content : Content) → (found >>= λ keyword. line_of keyword lines wires words) ≡ Ok content → IsGood wires (nth words 1) content
+by_keyword (Err fault) lines wires words content h = cc
+by_keyword (Ok keyword) lines wires words content h = line_good keyword lines wires words content h
+
+-- a line that defines a wire gives a good one
+pub definition_good : (lines : List (List ℕ)) (wires : List Wire) (words : List (List ℕ)) (content : Content) → defining_line lines wires words ≡ Ok content → IsGood wires (nth words 1) content
+unfolding defining_line
+definition_good lines wires words content h =
+    by_keyword (ok_or (keyword_of (nth words 0)) BadLine) lines wires words content h
+
+-- ---- an output's line
+
+-- the number of a wire that isn't an output yet
+pub record IsGoodOut (wires : List Wire) (outs : List WireNo) (out : WireNo) : Type 0 where
+  pub within : nat_lt out.0 (length wires) ≡ true
+  pub fresh : list_any (λ o. o.0 == out.0) outs ≡ false
+
+-- the wire is there
+out_made : (wires : List Wire) (outs : List WireNo) (found : Option ℕ) (out : WireNo) → ((place : ℕ) → found ≡ Some place → nat_lt place (length wires) ≡ true) → is_output outs found ≡ false → (ok_or found LaterWire >>= λ place. Ok (record { 0 = place })) ≡ Ok out → IsGoodOut wires outs out
+out_made wires outs None out within new h = cc
+out_made wires outs (Some place) out within new h =
+    let made : WireNo = record { 0 = place } in
+    let same : made ≡ out = cc in
+    let first : IsGoodOut wires outs made = record { within = within place refl; fresh = new } in
+    subst (λ o. IsGoodOut wires outs o) same first
+
+-- from the front on
+out_tests : (wires : List Wire) (outs : List WireNo) (found : Option ℕ) (form name : Result (Unit {0}) NetKind) (named : Bool) (known : Result (Unit {0}) NetKind) (out : WireNo) → ((place : ℕ) → found ≡ Some place → nat_lt place (length wires) ≡ true) → is_output outs found ≡ named → (form >>= λ _. name >>= λ _. demand (not named) Repeated >>= λ _. known >>= λ _. ok_or found LaterWire >>= λ place. Ok (record { 0 = place })) ≡ Ok out → IsGoodOut wires outs out
+out_tests wires outs found (Err fault) name named known out within new h = cc
+out_tests wires outs found (Ok _) (Err fault) named known out within new h = cc
+out_tests wires outs found (Ok _) (Ok _) true known out within new h = cc
+out_tests wires outs found (Ok _) (Ok _) false (Err fault) out within new h = cc
+out_tests wires outs found (Ok _) (Ok _) false (Ok _) out within new h = out_made wires outs found out within new h
+
+-- an output is a wire that isn't one yet
+pub output_line_good : (lines : List (List ℕ)) (wires : List Wire) (outs : List WireNo) (words : List (List ℕ)) (out : WireNo) → out_line lines wires outs words ≡ Ok out → IsGoodOut wires outs out
+unfolding out_line
+output_line_good lines wires outs words out h =
+    out_tests wires outs (place_of wires (nth words 1)) (demand (length words == 2) BadLine) (demand (is_name (nth words 1)) BadName) (is_output outs (place_of wires (nth words 1))) (demand (is_known lines wires (nth words 1)) UnknownName) out (place_within wires (nth words 1)) refl h

@@ -1,0 +1,14 @@
+mod HeldNumbers
+pub mod GoodLines
+pub mod ReadingLaw
+mod TextExamples
+mod PrintedBlocks
+mod PrintedForms
+mod PrintedKinds
+mod PrintedNames
+mod PrintedNetworks
+mod PrintedPieces
+mod PrintedRoutines
+mod PrintedText
+mod PrintedWires
+mod ScaledTypes

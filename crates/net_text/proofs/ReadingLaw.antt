@@ -1,0 +1,273 @@
+-- Whatever a text says is valid.
+use Rattle.std.proofs.Common.{◌≡◌, ℕ, suc, ◌+◌, ◌<◌, ◌≤◌, Bool, true, false, not, ◌&&◌, ◌||◌, ◌==◌, cond, nat_le, nat_lt, List, [], ◌∷◌, ◌++◌, map, length, codes, bytes_eq, refl, sym, ap, ap₂, subst, ◌∙◌, Result, Ok, Err, arith, length-append, zero-add, add-zero}
+use Rattle.std.specs.Prelude.{Option, Some, None}
+use Rattle.std.specs.List.{list_any, list_all}
+use Rattle.std.proofs.Math.ListN.{get_or-append}
+use Rattle.std.proofs.lemmas.List.Folds.{list_any-append, list_all-append}
+use Rattle.std.proofs.lemmas.Bool.{and_parts}
+use Rattle.std.proofs.lemmas.Bool.Decides.{nat_tests}
+use Rattle.text_words.specs.Names.{is_name}
+use Rattle.text_words.specs.Lines.{lines_of, nth, words_of}
+use Rattle.fx_core.specs.declared.word_type.Ty.{Ty}
+use Rattle.net_model.specs.declared.network.NetKind.{NetKind}
+use Rattle.net_model.specs.declared.network.NetKind.TheVariants.{Missing}
+use Rattle.net_text.specs.declared.reader.NetFault.{NetFault}
+use Rattle.net_model.specs.declared.wires.WireNo.{WireNo}
+use Rattle.net_model.specs.declared.wires.Kind.{Kind}
+use Rattle.net_model.specs.declared.wires.Block.{Block}
+use Rattle.net_model.specs.declared.wires.Item.{Item}
+use Rattle.net_model.specs.declared.wires.Item.TheVariants.{Input, Const, Block as OfBlock}
+use Rattle.net_model.specs.declared.wires.Wire.{Wire}
+use Rattle.net_text.specs.declared.line_forms.Content.{Content}
+use Rattle.net_model.specs.Wires.{NetData, no_wire, argument_of, is_input}
+use Rattle.net_model.specs.Validity.{is_number_of, type_read, takes_block, type_given, is_earlier, is_given, reads_earlier, are_given, is_built_item, item_reads_earlier, item_agrees, item_in_range, is_good_wire, is_good_kind, are_good_from, are_distinct, are_distinct_numbers, is_valid, IsValid}
+use Rattle.text_words.specs.Steps.{◌>>=◌, demand}
+use Rattle.net_text.specs.Forms.{out_line, defining_line}
+use Rattle.net_text.specs.Text.{located, after_out, after_definition, after_line, ended, walked, is_head, no_head, from_head, network_of}
+use Rattle.net_text.proofs.GoodLines.{IsGood, IsGoodOut, is_wire-named, definition_good, output_line_good, true_if_both, first_of_both, second_of_both}
+
+-- ---- one more wire leaves the wires before it good
+
+-- an earlier argument is the same wire
+is_given-append : (wires more : List Wire) (i first a : ℕ) (ty : Option Ty) → is_earlier i ty a ≡ true → i ≤ length wires → is_given (wires ++ more) first ty a ≡ is_given wires first ty a
+is_given-append wires more i first a (Some ty) below h =
+    let lt : a < length wires = grind (arith, nat_tests) in
+    ap (λ w. is_number_of ty w.kind) (get_or-append wires more no_wire a lt)
+is_given-append wires more i first a None below h = refl
+
+-- so all that a block is given stays
+are_given-append : (wires more : List Wire) (i : ℕ) (b : Block) → reads_earlier i b ≡ true → i ≤ length wires → are_given (wires ++ more) b ≡ are_given wires b
+are_given-append wires more i b below h =
+    let parts = and_parts _ _ below in
+    let front = and_parts _ _ parts.0 in
+    let first = argument_of b 0 in
+    ap₂ (λ p q. p && q) (ap₂ (λ p q. p && q) (is_given-append wires more i first first (type_read b 0) front.0 h) (is_given-append wires more i first (argument_of b 1) (type_read b 1) front.1 h)) (is_given-append wires more i first (argument_of b 2) (type_read b 2) parts.1 h)
+
+-- and its types agree as before
+item_agrees-append : (wires more : List Wire) (i : ℕ) (kind : Kind) (item : Item) → item_reads_earlier i item ≡ true → i ≤ length wires → item_agrees (wires ++ more) kind item ≡ item_agrees wires kind item
+item_agrees-append wires more i kind (Input lo hi) below h = refl
+item_agrees-append wires more i kind (Const value) below h = refl
+item_agrees-append wires more i kind (OfBlock b) below h =
+    ap (λ t. takes_block b && t && is_number_of (type_given b) kind) (are_given-append wires more i b below h)
+
+-- a test that is the same where the third holds
+by_earlier : (n b e s t k r : Bool) → (e ≡ true → s ≡ t) → (n && b && e && s && k && r) ≡ (n && b && e && t && k && r)
+by_earlier false b e s t k r h = refl
+by_earlier true false e s t k r h = refl
+by_earlier true true false s t k r h = refl
+by_earlier true true true s t k r h = ap (λ x. x && k && r) (h refl)
+
+-- a wire stays good
+is_good_wire-append : (wires more : List Wire) (i : ℕ) (w : Wire) → i ≤ length wires → is_good_wire (wires ++ more) i w ≡ is_good_wire wires i w
+is_good_wire-append wires more i w h =
+    by_earlier (is_name w.name) (is_built_item w.item) (item_reads_earlier i w.item) (item_agrees (wires ++ more) w.kind w.item) (item_agrees wires w.kind w.item) (is_good_kind w.kind) (item_in_range w.kind w.item) (λ below. item_agrees-append wires more i w.kind w.item below h)
+
+-- all wires stay good
+are_good_from-append : (wires more : List Wire) (i : ℕ) (ws : List Wire) → i + length ws ≤ length wires → are_good_from (wires ++ more) i ws ≡ are_good_from wires i ws
+are_good_from-append wires more i [] h = refl
+are_good_from-append wires more i (w ∷ ws) h =
+    ap₂ (λ p q. p && q) (is_good_wire-append wires more i w (omega arith)) (are_good_from-append wires more (i + 1) ws (omega arith))
+
+-- how tests are regrouped
+and_assoc : (a b c : Bool) → (a && (b && c)) ≡ ((a && b) && c)
+and_assoc true b c = refl
+and_assoc false b c = refl
+
+and_true : (a : Bool) → (a && true) ≡ a
+and_true true = refl
+and_true false = refl
+
+-- one more wire at the end
+are_good_from-last : (all : List Wire) (i : ℕ) (ws : List Wire) (w : Wire) → are_good_from all i (ws ++ w ∷ []) ≡ (are_good_from all i ws && is_good_wire all (i + length ws) w)
+are_good_from-last all i [] w =
+    and_true (is_good_wire all i w) ∙ ap (λ k. is_good_wire all k w) (sym (add-zero i))
+are_good_from-last all i (v ∷ ws) w =
+    let next : i + 1 + length ws ≡ i + suc (length ws) = omega arith in
+    ap (λ t. is_good_wire all i v && t) (are_good_from-last all (i + 1) ws w)
+    ∙ and_assoc (is_good_wire all i v) (are_good_from all (i + 1) ws) (is_good_wire all (i + 1 + length ws) w)
+    ∙ ap (λ k. is_good_wire all i v && are_good_from all (i + 1) ws && is_good_wire all k w) next
+
+-- ---- one more name, and one more output
+
+-- neither of two tests holds
+or_false : (a b : Bool) → (a || b) ≡ false → (a ≡ false) × (b ≡ false)
+or_false true b h = cc
+or_false false b h = (refl, h)
+
+-- nor does a third
+neither : (a b : Bool) → not a ≡ true → b ≡ false → not (a || (b || false)) ≡ true
+neither true b h k = h
+neither false true h k = sym k
+neither false false h k = refl
+
+-- one more element that fails leaves none that passes
+none_more : {X : Type 0} (p : X → Bool) (xs : List X) (y : X) → not (list_any p xs) ≡ true → p y ≡ false → not (list_any p (xs ++ y ∷ [])) ≡ true
+none_more p xs y h k = ap not (list_any-append p xs (y ∷ [])) ∙ neither (list_any p xs) (p y) h k
+
+-- one more name that is new
+are_distinct-last : (names : List (List ℕ)) (name : List ℕ) → are_distinct names ≡ true → list_any (λ m. bytes_eq m name) names ≡ false → are_distinct (names ++ name ∷ []) ≡ true
+are_distinct-last [] name d new = refl
+are_distinct-last (m ∷ names) name d new =
+    let apart = or_false (bytes_eq m name) (list_any (λ m. bytes_eq m name) names) new in
+    true_if_both _ _ (none_more (bytes_eq m) names name (first_of_both (not (list_any (bytes_eq m) names)) (are_distinct names) d) apart.0) (are_distinct-last names name (second_of_both (not (list_any (bytes_eq m) names)) (are_distinct names) d) apart.1)
+
+-- one more number that is new
+are_distinct_numbers-last : (numbers : List ℕ) (n : ℕ) → are_distinct_numbers numbers ≡ true → list_any (λ m. m == n) numbers ≡ false → are_distinct_numbers (numbers ++ n ∷ []) ≡ true
+are_distinct_numbers-last [] n d new = refl
+are_distinct_numbers-last (m ∷ numbers) n d new =
+    let apart = or_false (m == n) (list_any (λ m. m == n) numbers) new in
+    true_if_both _ _ (none_more (λ k. m == k) numbers n (first_of_both (not (list_any (λ k. m == k) numbers)) (are_distinct_numbers numbers) d) apart.0) (are_distinct_numbers-last numbers n (second_of_both (not (list_any (λ k. m == k) numbers)) (are_distinct_numbers numbers) d) apart.1)
+
+-- a test of what is mapped
+list_any-map : {X Y : Type 0} (f : X → Y) (p : Y → Bool) (xs : List X) → list_any p (map f xs) ≡ list_any (λ x. p (f x)) xs
+list_any-map f p [] = refl
+list_any-map f p (x ∷ xs) = ap (λ t. p (f x) || t) (list_any-map f p xs)
+
+-- one more element is mapped
+map-last : {X Y : Type 0} (f : X → Y) (xs : List X) (x : X) → map f (xs ++ x ∷ []) ≡ map f xs ++ f x ∷ []
+map-last f [] x = refl
+map-last f (y ∷ xs) x = ap (λ t. f y ∷ t) (map-last f xs x)
+
+-- a number below a bound is below a greater one
+lt_more : (a n m : ℕ) → nat_lt a n ≡ true → n ≤ m → nat_lt a m ≡ true
+lt_more a n m h le = grind (arith, nat_tests)
+
+-- one more wire where there are fewer than 512
+few_more : (n k : ℕ) → nat_lt n 512 ≡ true → k ≡ n + 1 → nat_le k 512 ≡ true
+few_more n k h e = grind (arith, nat_tests)
+
+-- outputs stay within more wires
+outs_within : (n m : ℕ) (outs : List WireNo) → n ≤ m → list_all (λ o. nat_lt o.0 n) outs ≡ true → list_all (λ o. nat_lt o.0 m) outs ≡ true
+outs_within n m [] le h = refl
+outs_within n m (o ∷ outs) le h =
+    true_if_both _ _ (lt_more o.0 n m (first_of_both (nat_lt o.0 n) (list_all (λ o. nat_lt o.0 n) outs) h) le) (outs_within n m outs le (second_of_both (nat_lt o.0 n) (list_all (λ o. nat_lt o.0 n) outs) h))
+
+-- ---- the network so far
+
+-- all that a valid network keeps but its ends
+record IsSound (net : NetData) : Type 0 where
+  few : nat_le (length net.wires) 512 ≡ true
+  distinct : are_distinct (map (λ w. w.name) net.wires) ≡ true
+  good : are_good_from net.wires 0 net.wires ≡ true
+  within : list_all (λ o. nat_lt o.0 (length net.wires)) net.outs ≡ true
+  once : are_distinct_numbers (map (λ o. o.0) net.outs) ≡ true
+
+-- no wires and no outputs
+abbrev start : NetData
+start = record { wires = []; outs = [] }
+
+-- nothing is sound
+start_sound : IsSound start
+start_sound = record { few = refl; distinct = refl; good = refl; within = refl; once = refl }
+
+-- one more wire, and one more output
+abbrev more_wires : NetData → List ℕ → Content → NetData
+more_wires net name content = record { wires = net.wires ++ record { name = name; kind = content.kind; item = content.item } ∷ []; outs = net.outs }
+
+abbrev more_outs : NetData → WireNo → NetData
+more_outs net out = record { wires = net.wires; outs = net.outs ++ out ∷ [] }
+
+-- it stays sound with one more good wire
+more_wires_sound : (net : NetData) (name : List ℕ) (content : Content) → IsSound net → IsGood net.wires name content → IsSound (more_wires net name content)
+more_wires_sound net name content s g =
+    let wires = net.wires in
+    let w : Wire = record { name = name; kind = content.kind; item = content.item } in
+    let longer : length (wires ++ w ∷ []) ≡ length wires + 1 = length-append wires (w ∷ []) in
+    let new : list_any (λ m. bytes_eq m name) (map (λ w. w.name) wires) ≡ false = list_any-map (λ w. w.name) (λ m. bytes_eq m name) wires ∙ sym (is_wire-named wires name) ∙ g.fresh in
+    let here : is_good_wire wires (length wires) w ≡ true = true_if_both _ _ (true_if_both _ _ (true_if_both _ _ (true_if_both _ _ (true_if_both _ _ g.named g.item.built) g.item.earlier) g.item.agreed) g.kind) g.item.in_range in
+    let last : is_good_wire (wires ++ w ∷ []) (0 + length wires) w ≡ true = is_good_wire-append wires (w ∷ []) (0 + length wires) w (omega arith) ∙ ap (λ k. is_good_wire wires k w) (zero-add (length wires)) ∙ here in
+    record {
+      few = few_more (length wires) (length (wires ++ w ∷ [])) g.room longer;
+      distinct = ap are_distinct (map-last (λ w. w.name) wires w) ∙ are_distinct-last (map (λ w. w.name) wires) name s.distinct new;
+      good = are_good_from-last (wires ++ w ∷ []) 0 wires w ∙ true_if_both _ _ (are_good_from-append wires (w ∷ []) 0 wires (omega arith) ∙ s.good) last;
+      within = outs_within (length wires) (length (wires ++ w ∷ [])) net.outs (omega (arith, longer)) s.within;
+      once = s.once;
+    }
+
+-- it stays sound with one more good output
+more_outs_sound : (net : NetData) (out : WireNo) → IsSound net → IsGoodOut net.wires net.outs out → IsSound (more_outs net out)
+more_outs_sound net out s g =
+    let new : list_any (λ m. m == out.0) (map (λ o. o.0) net.outs) ≡ false = list_any-map (λ o. o.0) (λ m. m == out.0) net.outs ∙ g.fresh in
+    record {
+      few = s.few;
+      distinct = s.distinct;
+      good = s.good;
+      within = list_all-append (λ o. nat_lt o.0 (length net.wires)) net.outs (out ∷ []) ∙ true_if_both _ _ s.within (true_if_both _ _ g.within refl);
+      once = ap are_distinct_numbers (map-last (λ o. o.0) net.outs out) ∙ are_distinct_numbers-last (map (λ o. o.0) net.outs) out.0 s.once new;
+    }
+
+-- ---- the lines
+
+-- a line of a wire that has no fault
+definition_step : (net : NetData) (name : List ℕ) (made : Result Content NetKind) (next : NetData) → IsSound net → ((content : Content) → made ≡ Ok content → IsGood net.wires name content) → (made >>= λ content. Ok (more_wires net name content)) ≡ Ok next → IsSound next
+definition_step net name (Err fault) next s g h = cc
+definition_step net name (Ok content) next s g h =
+    let same : more_wires net name content ≡ next = cc in
+    subst (λ n. IsSound n) same (more_wires_sound net name content s (g content refl))
+
+-- a line of an output that has no fault
+out_step : (net : NetData) (made : Result WireNo NetKind) (next : NetData) → IsSound net → ((out : WireNo) → made ≡ Ok out → IsGoodOut net.wires net.outs out) → (made >>= λ out. Ok (more_outs net out)) ≡ Ok next → IsSound next
+out_step net (Err fault) next s g h = cc
+out_step net (Ok out) next s g h =
+    let same : more_outs net out ≡ next = cc in
+    subst (λ n. IsSound n) same (more_outs_sound net out s (g out refl))
+
+-- whichever form the line has
+line_step : (net next : NetData) (no_words is_out : Bool) (out definition : Result NetData NetKind) → IsSound net → (out ≡ Ok next → IsSound next) → (definition ≡ Ok next → IsSound next) → cond no_words (Ok net) (cond is_out out definition) ≡ Ok next → IsSound next
+line_step net next true is_out out definition s f g h = let same : net ≡ next = cc in subst (λ n. IsSound n) same s
+line_step net next false true out definition s f g h = f h
+line_step net next false false out definition s f g h = g h
+
+-- each line leaves it sound
+after_line_sound : (lines : List (List ℕ)) (net : NetData) (words : List (List ℕ)) (next : NetData) → IsSound net → after_line lines net words ≡ Ok next → IsSound next
+unfolding after_line after_out after_definition
+after_line_sound lines net words next s h =
+    line_step net next (length words == 0) (bytes_eq (nth words 0) (codes "out")) (after_out lines net words) (after_definition lines net words) s (out_step net (out_line lines net.wires net.outs words) next s (output_line_good lines net.wires net.outs words)) (definition_step net (nth words 1) (defining_line lines net.wires words) next s (definition_good lines net.wires words)) h
+
+-- ---- the end
+
+-- an input and an output
+abbrev has_ends : NetData → Bool
+has_ends net = list_any (λ w. is_input w.item) net.wires && nat_lt 0 (length net.outs)
+
+-- what is sound and has ends is valid
+sound_valid : (net : NetData) → IsSound net → has_ends net ≡ true → IsValid net
+unfolding is_valid
+sound_valid net s e =
+    true_if_both _ _ (true_if_both _ _ (true_if_both _ _ (true_if_both _ _ (true_if_both _ _ (true_if_both _ _ s.few s.distinct) s.good) s.within) s.once) (first_of_both (list_any (λ w. is_input w.item) net.wires) (nat_lt 0 (length net.outs)) e)) (second_of_both (list_any (λ w. is_input w.item) net.wires) (nat_lt 0 (length net.outs)) e)
+
+-- the end tests the ends
+ended_valid : (above : ℕ) (net last : NetData) (ends : Bool) → IsSound net → has_ends net ≡ ends → located above (demand ends Missing >>= λ _. Ok net) ≡ Ok last → IsValid last
+ended_valid above net last true s e h =
+    let same : net ≡ last = cc in subst (λ n. IsValid n) same (sound_valid net s e)
+ended_valid above net last false s e h = cc
+
+-- a line that has no fault, and then the rest
+step_valid : (line : ℕ) (made : Result NetData NetKind) (rest : NetData → Result NetData NetFault) (last : NetData) → ((next : NetData) → made ≡ Ok next → rest next ≡ Ok last → IsValid last) → (located line made >>= rest) ≡ Ok last → IsValid last
+step_valid line (Err kind) rest last f h = cc
+step_valid line (Ok next) rest last f h = f next refl h
+
+-- all lines below the head
+walked_valid : (lines : List (List ℕ)) (above : ℕ) (net : NetData) (rest : List (List ℕ)) (last : NetData) → IsSound net → walked lines above net rest ≡ Ok last → IsValid last
+unfolding walked ended
+walked_valid lines above net [] last s h = ended_valid above net last (has_ends net) s refl h
+walked_valid lines above net (line ∷ rest) last s h =
+    step_valid (above + 1) (after_line lines net (words_of line)) (λ next. walked lines (above + 1) next rest) last (λ next e. walked_valid lines (above + 1) next rest last (after_line_sound lines net (words_of line) next s e)) h
+
+-- a line without words, the head, or no head
+head_valid : (no_words head : Bool) (later below : Result NetData NetFault) (line : ℕ) (last : NetData) → (later ≡ Ok last → IsValid last) → (below ≡ Ok last → IsValid last) → cond no_words later (cond head below (no_head line)) ≡ Ok last → IsValid last
+head_valid true head later below line last f g h = f h
+head_valid false true later below line last f g h = g h
+head_valid false false later below line last f g h = cc
+
+-- all lines
+from_head_valid : (lines : List (List ℕ)) (above : ℕ) (rest : List (List ℕ)) (last : NetData) → from_head lines above rest ≡ Ok last → IsValid last
+unfolding from_head
+from_head_valid lines above [] last h = cc
+from_head_valid lines above (line ∷ rest) last h =
+    head_valid (length (words_of line) == 0) (is_head (words_of line)) (from_head lines (above + 1) rest) (walked lines (above + 1) start rest) (above + 1) last (from_head_valid lines (above + 1) rest last) (walked_valid lines (above + 1) start rest last start_sound) h
+
+-- the law
+pub network_of_valid : (text : List ℕ) (net : NetData) → network_of text ≡ Ok net → IsValid net
+unfolding network_of
+network_of_valid text net h = from_head_valid (lines_of text) 0 (lines_of text) net h

@@ -1,0 +1,268 @@
+-- The lines of a network's text, one definition for each form. The order of its lines is the order in which a
+-- line is tested; the first test that fails says what is wrong.
+use Rattle.std.specs.Prelude.{ℕ, ◌+◌, ◌<◌, Bool, true, false, not, ◌&&◌, ◌||◌, ◌==◌, nat_le, nat_lt, int_le, List, length, ℤ, pos, unsigned_abs, slice_get, codes, bytes_eq, Option, Some, None, ok_or, is_some, Result, Ok, Err, if◌then◌else◌}
+use Rattle.std.specs.List.{list_any}
+use Rattle.text_words.specs.Lines.{nth, words_of}
+use Rattle.text_words.specs.Names.{is_name}
+use Rattle.text_words.specs.Numbers.{number_of}
+use Rattle.text_words.specs.Steps.{◌>>=◌, demand}
+use Rattle.fx_core.specs.declared.word_type.Ty.{Ty}
+use Rattle.fx_core.specs.declared.word_type.Ty.TheVariants.{U8, S8, U16, S16}
+use Rattle.net_model.specs.declared.network.NetKind.{NetKind}
+use Rattle.net_model.specs.declared.network.NetKind.TheVariants.{BadLine, BadName, Repeated, BadType, NotBuilt, BadCount, UnknownName, LaterWire, TypeDiffers, BadNumber, OutOfRange, TooMany}
+use Rattle.net_model.specs.declared.wires.WireNo.{WireNo}
+use Rattle.net_model.specs.declared.wires.Kind.{Kind}
+use Rattle.net_model.specs.declared.wires.Block.{Block}
+use Rattle.net_model.specs.declared.wires.Item.{Item}
+use Rattle.net_model.specs.declared.wires.Item.TheVariants.{Input, Const, Block as OfBlock}
+use Rattle.net_model.specs.declared.wires.Wire.{Wire}
+use Rattle.net_text.specs.declared.routine_word.Routine.{Routine}
+use Rattle.net_text.specs.declared.routine_word.Arguments.{Arguments}
+use Rattle.net_text.specs.declared.keyword.Keyword.{Keyword}
+use Rattle.net_text.specs.declared.keyword.Keyword.TheVariants.{InLine, ConstLine, AxisLine, AxisStepLine, AxisShiftLine, TableLine, MapLine, WireLine, DelayLine}
+use Rattle.net_text.specs.declared.line_forms.Content.{Content}
+use Rattle.net_model.specs.Wires.{place_of}
+use Rattle.net_model.specs.Validity.{kind_holds, agrees, most_wires}
+use Rattle.net_text.specs.TypeWords.{kind_of, ty_of, axis_name, is_position}
+use Rattle.net_text.specs.RoutineWords.{routine_at, types_of, arity_of, is_shifting, block_of}
+
+-- ---- names
+
+-- the keyword of a line that defines a name
+unfoldable pub keyword_of : List ℕ → Option Keyword
+keyword_of word =
+    if bytes_eq word (codes "in") then Some InLine
+    else (if bytes_eq word (codes "const") then Some ConstLine
+    else (if bytes_eq word (codes "axis") then Some AxisLine
+    else (if bytes_eq word (codes "axisstep") then Some AxisStepLine
+    else (if bytes_eq word (codes "axisshift") then Some AxisShiftLine
+    else (if bytes_eq word (codes "table") then Some TableLine
+    else (if bytes_eq word (codes "map") then Some MapLine
+    else (if bytes_eq word (codes "wire") then Some WireLine
+    else (if bytes_eq word (codes "delay") then Some DelayLine
+    else None))))))))
+
+-- the first words of the lines that define a name
+abbrev pub is_defining : List ℕ → Bool
+is_defining word = is_some (keyword_of word)
+
+-- a line of such a word defines its second word, whatever else the line says
+abbrev pub defines : List ℕ → List (List ℕ) → Bool
+defines name words = is_defining (nth words 0) && bytes_eq (nth words 1) name
+
+-- some line of the text defines the name
+unfoldable pub is_defined : List (List ℕ) → List ℕ → Bool
+is_defined lines name = list_any (λ line. defines name (words_of line)) lines
+
+-- a wire so far has the name
+abbrev pub is_wire : List Wire → List ℕ → Bool
+is_wire wires name = is_some (place_of wires name)
+
+-- a name that is used is a wire so far, or some line defines it
+unfoldable pub is_known : List (List ℕ) → List Wire → List ℕ → Bool
+is_known lines wires name = is_wire wires name || is_defined lines name
+
+-- the number of a wire that is used, which a line above defines
+abbrev pub reached : List Wire → List ℕ → Result ℕ NetKind
+reached wires name = ok_or (place_of wires name) LaterWire
+
+-- a name that no line above defines
+unfoldable pub fresh : List Wire → List ℕ → Result (Unit {0}) NetKind
+fresh wires name = do
+  _ ← demand (is_name name) BadName
+  demand (not (is_wire wires name)) Repeated
+
+-- there is room for one more wire
+abbrev pub has_room : List Wire → Result (Unit {0}) NetKind
+has_room wires = demand (nat_lt (length wires) most_wires) TooMany
+
+-- ---- numbers
+
+-- the number that a word writes
+abbrev pub number_at : List ℕ → Result ℤ NetKind
+number_at word = ok_or (number_of word) BadNumber
+
+-- an input whose range lies in the kind and isn't empty
+unfoldable pub range_of : Kind → List ℕ → List ℕ → Result Item NetKind
+range_of kind low high = do
+  lo ← number_at low
+  hi ← number_at high
+  _ ← demand (kind_holds kind lo && kind_holds kind hi && int_le lo hi) OutOfRange
+  Ok (Input lo hi)
+
+-- a constant of the kind
+unfoldable pub value_of : Kind → List ℕ → Result Item NetKind
+value_of kind word = do
+  value ← number_at word
+  _ ← demand (kind_holds kind value) OutOfRange
+  Ok (Const value)
+
+-- ---- types
+
+-- a number type or `bool`
+abbrev pub kind_at : List ℕ → Result Kind NetKind
+kind_at word = ok_or (kind_of word) BadType
+
+-- a type word of any sort
+abbrev pub is_type : List ℕ → Bool
+is_type word = is_some (kind_of word) || is_position word
+
+-- the type of an axis, a table or a map: one of at most 16 bits, without a point
+abbrev pub is_narrow : Option Ty → Bool
+is_narrow (Some U8) = true
+is_narrow (Some S8) = true
+is_narrow (Some U16) = true
+is_narrow (Some S16) = true
+is_narrow other = false
+
+-- the kind of a wire that a block gives, where they agree with its arguments; a position is given by no block that is built
+unfoldable pub agreed : List Wire → Block → List ℕ → Result Kind NetKind
+agreed wires block word = do
+  kind ← ok_or (kind_of word) TypeDiffers
+  _ ← demand (agrees wires kind block) TypeDiffers
+  Ok kind
+
+-- ---- the forms
+
+-- `in NAME TYPE LO HI`
+unfoldable pub in_line : List Wire → List (List ℕ) → Result Content NetKind
+in_line wires words = do
+  _ ← demand (length words == 5) BadLine
+  _ ← fresh wires (nth words 1)
+  kind ← kind_at (nth words 2)
+  item ← range_of kind (nth words 3) (nth words 4)
+  _ ← has_room wires
+  Ok (record { kind = kind; item = item })
+
+-- `const NAME TYPE VALUE`
+unfoldable pub const_line : List Wire → List (List ℕ) → Result Content NetKind
+const_line wires words = do
+  _ ← demand (length words == 4) BadLine
+  _ ← fresh wires (nth words 1)
+  kind ← kind_at (nth words 2)
+  item ← value_of kind (nth words 3)
+  _ ← has_room wires
+  Ok (record { kind = kind; item = item })
+
+-- the type of argument number p of a routine, from 0; none where the routine doesn't have it
+abbrev pub type_at : Routine → ℕ → Option Ty
+type_at routine p = slice_get (types_of routine) p
+
+-- the word of an argument of this place and type, behind `wire NAME TYPE = ROUTINE`; one that the routine doesn't have repeats the first
+abbrev pub argument_word : List (List ℕ) → ℕ → Option Ty → List ℕ
+argument_word words p (Some ty) = nth words (5 + p)
+argument_word words p None = nth words 5
+
+-- the word of argument number p of a routine, from 0
+abbrev pub argument_at : Routine → List (List ℕ) → ℕ → List ℕ
+argument_at routine words p = argument_word words p (type_at routine p)
+
+-- the wires that a routine is given
+unfoldable pub arguments_of : List Wire → Routine → List (List ℕ) → Result Arguments NetKind
+arguments_of wires routine words = do
+  x ← reached wires (argument_at routine words 0)
+  y ← reached wires (argument_at routine words 1)
+  z ← reached wires (argument_at routine words 2)
+  Ok (record { x = record { 0 = x }; y = record { 0 = y }; z = record { 0 = z } })
+
+-- each of them is one of so many wires
+abbrev pub AreBelow : ℕ → Arguments → Type 0
+AreBelow count given = (given.x.0 < count) × (given.y.0 < count) × (given.z.0 < count)
+
+-- the count of places that a word writes
+unfoldable pub places_at : List ℕ → Result ℕ NetKind
+places_at word = do
+  sh ← number_at word
+  _ ← demand (int_le (pos 0) sh && int_le sh (pos 15)) OutOfRange
+  Ok (unsigned_abs sh)
+
+-- the count of places, which stands behind the wires of a routine that shifts; 0 where it doesn't
+unfoldable pub shift_of : Routine → List (List ℕ) → Result ℕ NetKind
+shift_of routine words = if is_shifting routine then places_at (nth words (5 + arity_of routine)) else Ok 0
+
+-- how many words a line of a routine has: a count of places is one more than the wires
+abbrev pub words_wanted : Routine → ℕ
+words_wanted routine = 5 + arity_of routine + (if is_shifting routine then 1 else 0)
+
+-- the axis that a type word names, if it names one, passes the test
+abbrev pub axis_passes : (List ℕ → Bool) → List ℕ → Bool
+axis_passes test word = not (is_position word) || test (axis_name word)
+
+-- the names that a wire line uses are defined
+abbrev pub are_known : List (List ℕ) → List Wire → Routine → List (List ℕ) → Bool
+are_known lines wires routine words =
+    axis_passes (is_known lines wires) (nth words 2)
+    && is_known lines wires (argument_at routine words 0) && is_known lines wires (argument_at routine words 1) && is_known lines wires (argument_at routine words 2)
+
+-- `wire NAME TYPE = ROUTINE ARG ..`
+unfoldable pub wire_line : List (List ℕ) → List Wire → List (List ℕ) → Result Content NetKind
+wire_line lines wires words = do
+  _ ← demand (nat_le 6 (length words) && bytes_eq (nth words 3) (codes "=")) BadLine
+  _ ← fresh wires (nth words 1)
+  _ ← demand (is_type (nth words 2)) BadType
+  routine ← routine_at (nth words 4)
+  _ ← demand (length words == words_wanted routine) BadCount
+  _ ← demand (are_known lines wires routine words) UnknownName
+  _ ← demand (axis_passes (is_wire wires) (nth words 2)) LaterWire
+  given ← arguments_of wires routine words
+  kind ← agreed wires (block_of routine given 0) (nth words 2)
+  sh ← shift_of routine words
+  _ ← has_room wires
+  Ok (record { kind = kind; item = OfBlock (block_of routine given sh) })
+
+-- a line that isn't built: its count of words, its name and its type are tested first
+unfoldable pub unbuilt_line : Bool → Bool → List Wire → List (List ℕ) → Result Content NetKind
+unbuilt_line has_form has_type wires words = do
+  _ ← demand has_form BadLine
+  _ ← fresh wires (nth words 1)
+  _ ← demand has_type BadType
+  Err NotBuilt
+
+-- `axis NAME TYPE P P ..` and `table NAME TYPE V V ..`
+abbrev pub list_line : List Wire → List (List ℕ) → Result Content NetKind
+list_line wires words = unbuilt_line (nat_le 4 (length words)) (is_narrow (ty_of (nth words 2))) wires words
+
+-- `axisstep NAME TYPE OFFSET STEP COUNT` and `axisshift NAME TYPE OFFSET SHIFT COUNT`
+abbrev pub spaced_line : List Wire → List (List ℕ) → Result Content NetKind
+spaced_line wires words = unbuilt_line (length words == 6) (is_narrow (ty_of (nth words 2))) wires words
+
+-- `map NAME TYPE NX NY V V ..`
+abbrev pub map_line : List Wire → List (List ℕ) → Result Content NetKind
+map_line wires words = unbuilt_line (nat_le 5 (length words)) (is_narrow (ty_of (nth words 2))) wires words
+
+-- `delay NAME TYPE INIT = SOURCE`
+abbrev pub delay_line : List Wire → List (List ℕ) → Result Content NetKind
+delay_line wires words = unbuilt_line ((length words == 6) && bytes_eq (nth words 4) (codes "=")) (is_type (nth words 2)) wires words
+
+-- an output is among those so far
+abbrev pub is_output : List WireNo → Option ℕ → Bool
+is_output outs (Some place) = list_any (λ o. o.0 == place) outs
+is_output outs None = false
+
+-- `out NAME`
+unfoldable pub out_line : List (List ℕ) → List Wire → List WireNo → List (List ℕ) → Result WireNo NetKind
+out_line lines wires outs words = do
+  _ ← demand (length words == 2) BadLine
+  _ ← demand (is_name (nth words 1)) BadName
+  _ ← demand (not (is_output outs (place_of wires (nth words 1)))) Repeated
+  _ ← demand (is_known lines wires (nth words 1)) UnknownName
+  place ← reached wires (nth words 1)
+  Ok (record { 0 = place })
+
+-- the line of a keyword
+unfoldable pub line_of : Keyword → List (List ℕ) → List Wire → List (List ℕ) → Result Content NetKind
+line_of InLine lines wires words = in_line wires words
+line_of ConstLine lines wires words = const_line wires words
+line_of AxisLine lines wires words = list_line wires words
+line_of AxisStepLine lines wires words = spaced_line wires words
+line_of AxisShiftLine lines wires words = spaced_line wires words
+line_of TableLine lines wires words = list_line wires words
+line_of MapLine lines wires words = map_line wires words
+line_of WireLine lines wires words = wire_line lines wires words
+line_of DelayLine lines wires words = delay_line wires words
+
+-- what a line gives that defines a name
+unfoldable pub defining_line : List (List ℕ) → List Wire → List (List ℕ) → Result Content NetKind
+defining_line lines wires words = do
+  keyword ← ok_or (keyword_of (nth words 0)) BadLine
+  line_of keyword lines wires words

@@ -1,0 +1,5 @@
+pub mod TypeWords
+pub mod RoutineWords
+pub mod Forms
+pub mod Text
+pub mod Printing

@@ -1,0 +1,66 @@
+-- The canonical text of a network: a line for each wire and each output, with one space between words.
+use Rattle.std.specs.Prelude.{◌≡◌, ℕ, zero, suc, pos, List, [], ◌∷◌, ◌++◌, map, length, take, codes, Ok, if◌then◌else◌}
+use Rattle.std.specs.Fmt.{signed_decimal}
+use Rattle.text_words.specs.Printed.{word_lines}
+use Rattle.fx_routines.specs.declared.table.Routine.TheVariants.{Arith as NamedArith, Scaled as NamedScaled}
+use Rattle.fx_routines.specs.Names.{type_word, routine_name}
+use Rattle.net_model.specs.declared.wires.WireNo.{WireNo}
+use Rattle.net_model.specs.declared.wires.Kind.{Kind}
+use Rattle.net_model.specs.declared.wires.Kind.TheVariants.{Num, Truth}
+use Rattle.net_model.specs.declared.wires.Block.{Block}
+use Rattle.net_model.specs.declared.wires.Block.TheVariants.{Arith, Scaled}
+use Rattle.net_model.specs.declared.wires.Item.{Item}
+use Rattle.net_model.specs.declared.wires.Item.TheVariants.{Input, Const, Block as OfBlock}
+use Rattle.net_model.specs.declared.wires.Wire.{Wire}
+use Rattle.net_model.specs.Built.{has_shift}
+use Rattle.net_model.specs.Wires.{NetData, wire_at, argument_of}
+use Rattle.net_model.specs.Validity.{types_read, IsValid}
+use Rattle.net_text.specs.Text.{network_of}
+
+-- a binary point behind a type: the point 0 isn't written
+abbrev pub point_word : ℕ → List ℕ
+point_word zero = []
+point_word (suc point) = 46 ∷ signed_decimal (pos (suc point))
+
+-- the type word of a kind
+abbrev pub kind_word : Kind → List ℕ
+kind_word (Num ty point) = type_word ty ++ point_word point
+kind_word Truth = codes "bool"
+
+-- the name of a block's routine
+unfoldable pub block_name : Block → List ℕ
+block_name (Arith op v x y z sh) = routine_name (NamedArith op) v
+block_name (Scaled op v x y) = routine_name (NamedScaled op) v
+
+-- the count of places behind a block's wires, where its routine has one
+abbrev pub shift_words : Block → List (List ℕ)
+shift_words (Arith op v x y z sh) = if has_shift op then signed_decimal (pos sh) ∷ [] else []
+shift_words (Scaled op v x y) = []
+
+-- the names of the wires that a block reads: those that its routine has
+abbrev pub argument_words : List Wire → Block → List (List ℕ)
+argument_words wires b = take (length (types_read b)) (map (λ p. (wire_at wires (argument_of b p)).name) (0 ∷ 1 ∷ 2 ∷ []))
+
+-- the words of a wire's line
+abbrev pub wire_words : List Wire → Wire → List (List ℕ)
+wire_words wires w = item_words wires w.name (kind_word w.kind) w.item where
+  item_words : List Wire → List ℕ → List ℕ → Item → List (List ℕ)
+  item_words wires name kind (Input lo hi) = codes "in" ∷ name ∷ kind ∷ signed_decimal lo ∷ signed_decimal hi ∷ []
+  item_words wires name kind (Const value) = codes "const" ∷ name ∷ kind ∷ signed_decimal value ∷ []
+  item_words wires name kind (OfBlock b) = codes "wire" ∷ name ∷ kind ∷ codes "=" ∷ block_name b ∷ (argument_words wires b ++ shift_words b)
+
+-- the words of an output's line
+abbrev pub out_words : List Wire → WireNo → List (List ℕ)
+out_words wires o = codes "out" ∷ (wire_at wires o.0).name ∷ []
+
+-- the words of all lines, in their order
+abbrev pub words_printed : NetData → List (List (List ℕ))
+words_printed net = (codes "net" ∷ codes "1" ∷ []) ∷ (map (wire_words net.wires) net.wires ++ map (out_words net.wires) net.outs)
+
+-- the canonical text of a network
+unfoldable pub text_of : NetData → List ℕ
+text_of net = word_lines (words_printed net)
+
+-- a valid network's canonical text is read as the network
+abbrev pub IsReadAgain : Type 0
+IsReadAgain = (net : NetData) → IsValid net → network_of (text_of net) ≡ Ok net

@@ -1,0 +1,19 @@
+// The network's text: which network it says, or its first fault with line and kind; and the canonical text of
+// a network, which reads as that network again.
+#![tactic(auto)]
+
+mod definitions;
+mod keyword;
+mod line_forms;
+mod printing;
+#[cfg(test)]
+mod printing_tests;
+mod reader;
+mod routine_word;
+mod steps;
+#[cfg(test)]
+mod tests;
+mod type_word;
+
+pub use printing::{law_of_printing, print_net};
+pub use reader::{NetError, NetFault, law_of_reading, read_net};

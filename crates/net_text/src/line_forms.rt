@@ -1,0 +1,411 @@
+// The forms of lines: what each gives, or the first of its tests that fails.
+ghost use Rattle.std.specs.Prelude.{◌≡◌, ◌<◌, ◌≤◌, length, IfOk, IfSome, OnOk, bytes_eq, codes, int_le, nat_le, pos, false, true, ◌&&◌, ◌==◌};
+ghost use Rattle.std.specs.List.{list_any};
+ghost use Rattle.text_words.specs.Lines.{lines_of, nth, words_of};
+ghost use Rattle.text_words.specs.Names.{is_name};
+ghost use Rattle.net_model.specs.Wires.{place_of};
+ghost use Rattle.net_text.specs.TypeWords.{ty_of};
+ghost use Rattle.net_text.specs.Forms.{AreBelow, agreed, are_known, argument_word, arguments_of, axis_passes, const_line, defining_line, delay_line, fresh, has_room, in_line, is_known, is_narrow, is_output, is_type, is_wire, kind_at, line_of, list_line, map_line, out_line, places_at, range_of, reached, shift_of, spaced_line, unbuilt_line, value_of, wire_line, words_wanted};
+
+use crate::definitions::is_defined;
+use crate::keyword::{Keyword, keyword_of};
+use crate::routine_word::{
+    Arguments, Routine, arity_of, block_of, is_shifting, routine_at, types_of,
+};
+use crate::steps::demand;
+use crate::type_word::{axis_name, is_position, kind_of, ty_of};
+use fx_core::Ty;
+use net_model::{
+    Block, GREATEST_SHIFT, Item, Kind, MOST_WIRES, NetKind, Wire, WireNo, agrees, is_range,
+    kind_holds,
+};
+use text_words::{count_words, is_name, number, word_at};
+
+// The place of a routine's first argument, behind `wire NAME TYPE = ROUTINE`.
+const FIRST_ARGUMENT: usize = 5;
+
+/// What a line gives its wire besides the name.
+#[derive(Clone, Copy, Debug, PartialEq, Eq)]
+pub struct Content {
+    pub kind: Kind,
+    pub item: Item,
+}
+
+/// The wire that a line defines, by the line's keyword. `text` is the whole text, and `wires` are those
+/// of the lines above.
+#[tactic(auto, unfolding(crate::specs::Forms::defining_line))]
+pub fn defining_line(text: &[u8], wires: &[Wire], line: &[u8]) -> Result<Content, NetKind>
+    requires { length wires.now ≤ 512 }
+    ensures value { result ≡ defining_line (lines_of text.now) wires.now (words_of line.now) }
+    ensures room { OnOk result (length wires.now < 512) }
+    ensures name { OnOk result (is_name (nth (words_of line.now) 1) ≡ true) }
+{
+    let keyword = keyword_of(word_at(line, 0)).ok_or(NetKind::BadLine)?;
+    line_of(keyword, text, wires, line)
+}
+
+#[tactic(auto, unfolding(crate::specs::Forms::line_of))]
+fn line_of(keyword: Keyword, text: &[u8], wires: &[Wire], line: &[u8]) -> Result<Content, NetKind>
+    requires { length wires.now ≤ 512 }
+    ensures value { result ≡ line_of keyword (lines_of text.now) wires.now (words_of line.now) }
+    ensures room { OnOk result (length wires.now < 512) }
+    ensures name { OnOk result (is_name (nth (words_of line.now) 1) ≡ true) }
+{
+    match keyword {
+        Keyword::InLine => in_line(wires, line),
+        Keyword::ConstLine => const_line(wires, line),
+        Keyword::AxisLine => list_line(wires, line),
+        Keyword::AxisStepLine => spaced_line(wires, line),
+        Keyword::AxisShiftLine => spaced_line(wires, line),
+        Keyword::TableLine => list_line(wires, line),
+        Keyword::MapLine => map_line(wires, line),
+        Keyword::WireLine => wire_line(text, wires, line),
+        Keyword::DelayLine => delay_line(wires, line),
+    }
+}
+
+// `in NAME TYPE LO HI`
+#[tactic(auto, unfolding(crate::specs::Forms::in_line))]
+fn in_line(wires: &[Wire], line: &[u8]) -> Result<Content, NetKind>
+    ensures value { result ≡ in_line wires.now (words_of line.now) }
+    ensures room { OnOk result (length wires.now < 512) }
+    ensures name { OnOk result (is_name (nth (words_of line.now) 1) ≡ true) }
+{
+    demand(count_words(line) == 5, NetKind::BadLine)?;
+    fresh(wires, word_at(line, 1))?;
+    let kind = kind_at(word_at(line, 2))?;
+    let item = range_of(kind, word_at(line, 3), word_at(line, 4))?;
+    has_room(wires)?;
+    Ok(Content { kind, item })
+}
+
+// `const NAME TYPE VALUE`
+#[tactic(auto, unfolding(crate::specs::Forms::const_line))]
+fn const_line(wires: &[Wire], line: &[u8]) -> Result<Content, NetKind>
+    ensures value { result ≡ const_line wires.now (words_of line.now) }
+    ensures room { OnOk result (length wires.now < 512) }
+    ensures name { OnOk result (is_name (nth (words_of line.now) 1) ≡ true) }
+{
+    demand(count_words(line) == 4, NetKind::BadLine)?;
+    fresh(wires, word_at(line, 1))?;
+    let kind = kind_at(word_at(line, 2))?;
+    let item = value_of(kind, word_at(line, 3))?;
+    has_room(wires)?;
+    Ok(Content { kind, item })
+}
+
+// `wire NAME TYPE = ROUTINE ARG ..`
+#[tactic(auto, unfolding(crate::specs::Forms::wire_line))]
+fn wire_line(text: &[u8], wires: &[Wire], line: &[u8]) -> Result<Content, NetKind>
+    requires { length wires.now ≤ 512 }
+    ensures value { result ≡ wire_line (lines_of text.now) wires.now (words_of line.now) }
+    ensures room { OnOk result (length wires.now < 512) }
+    ensures name { OnOk result (is_name (nth (words_of line.now) 1) ≡ true) }
+{
+    demand(is_wire_form(line), NetKind::BadLine)?;
+    fresh(wires, word_at(line, 1))?;
+    demand(is_type(word_at(line, 2)), NetKind::BadType)?;
+    let routine = routine_at(word_at(line, 4))?;
+    demand(
+        count_words(line) == words_wanted(routine),
+        NetKind::BadCount,
+    )?;
+    demand(are_known(text, wires, routine, line), NetKind::UnknownName)?;
+    demand(axis_is_reached(wires, word_at(line, 2)), NetKind::LaterWire)?;
+    let given = arguments_of(wires, routine, line)?;
+    let kind = agreed(wires, block_of(routine, given, 0), word_at(line, 2))?;
+    let sh = shift_of(routine, line)?;
+    has_room(wires)?;
+    let item = Item::Block(block_of(routine, given, sh));
+    Ok(Content { kind, item })
+}
+
+// A line that isn't built: its form, its name and its type are tested first.
+#[tactic(auto, unfolding(crate::specs::Forms::unbuilt_line))]
+fn unbuilt_line(
+    has_form: bool,
+    has_type: bool,
+    wires: &[Wire],
+    line: &[u8],
+) -> Result<Content, NetKind>
+    ensures value { result ≡ unbuilt_line has_form has_type wires.now (words_of line.now) }
+    ensures none { OnOk result (true ≡ false) }
+{
+    demand(has_form, NetKind::BadLine)?;
+    fresh(wires, word_at(line, 1))?;
+    demand(has_type, NetKind::BadType)?;
+    Err(NetKind::NotBuilt)
+}
+
+// `axis NAME TYPE P P ..` and `table NAME TYPE V V ..`
+fn list_line(wires: &[Wire], line: &[u8]) -> Result<Content, NetKind>
+    ensures value { result ≡ list_line wires.now (words_of line.now) }
+    ensures none { OnOk result (true ≡ false) }
+{
+    unbuilt_line(count_words(line) >= 4, has_narrow(line), wires, line)
+}
+
+// `axisstep NAME TYPE OFFSET STEP COUNT` and `axisshift NAME TYPE OFFSET SHIFT COUNT`
+fn spaced_line(wires: &[Wire], line: &[u8]) -> Result<Content, NetKind>
+    ensures value { result ≡ spaced_line wires.now (words_of line.now) }
+    ensures none { OnOk result (true ≡ false) }
+{
+    unbuilt_line(count_words(line) == 6, has_narrow(line), wires, line)
+}
+
+// `map NAME TYPE NX NY V V ..`
+fn map_line(wires: &[Wire], line: &[u8]) -> Result<Content, NetKind>
+    ensures value { result ≡ map_line wires.now (words_of line.now) }
+    ensures none { OnOk result (true ≡ false) }
+{
+    unbuilt_line(count_words(line) >= 5, has_narrow(line), wires, line)
+}
+
+// `delay NAME TYPE INIT = SOURCE`
+fn delay_line(wires: &[Wire], line: &[u8]) -> Result<Content, NetKind>
+    ensures value { result ≡ delay_line wires.now (words_of line.now) }
+    ensures none { OnOk result (true ≡ false) }
+{
+    unbuilt_line(is_delay_form(line), is_type(word_at(line, 2)), wires, line)
+}
+
+// Six words, of which the fifth is `=`.
+fn is_delay_form(line: &[u8]) -> bool
+    ensures { result ≡ ((length (words_of line.now) == 6) && bytes_eq (nth (words_of line.now) 4) (codes "=")) }
+{
+    count_words(line) == 6 && word_at(line, 4) == b"=".as_slice()
+}
+
+/// The wire that an `out NAME` names, given the outputs above.
+#[tactic(auto, unfolding(crate::specs::Forms::out_line))]
+pub fn out_line(
+    text: &[u8],
+    wires: &[Wire],
+    outs: &[WireNo],
+    line: &[u8],
+) -> Result<WireNo, NetKind>
+    requires { length wires.now ≤ 512 }
+    ensures { result ≡ out_line (lines_of text.now) wires.now outs.now (words_of line.now) }
+{
+    demand(count_words(line) == 2, NetKind::BadLine)?;
+    let name = word_at(line, 1);
+    demand(is_name(name), NetKind::BadName)?;
+    demand(!is_output(outs, place_of(wires, name)), NetKind::Repeated)?;
+    demand(is_known(text, wires, name), NetKind::UnknownName)?;
+    let place = reached(wires, name)?;
+    Ok(WireNo(place as u32))
+}
+
+fn words_wanted(routine: Routine) -> usize
+    ensures { result ≡ words_wanted routine }
+{
+    FIRST_ARGUMENT + arity_of(routine) + usize::from(is_shifting(routine))
+}
+
+// At least six words, of which the fourth is `=`.
+fn is_wire_form(line: &[u8]) -> bool
+    ensures { result ≡ (nat_le 6 (length (words_of line.now)) && bytes_eq (nth (words_of line.now) 3) (codes "=")) }
+{
+    count_words(line) >= 6 && word_at(line, 3) == b"=".as_slice()
+}
+
+#[tactic(auto, unfolding(crate::specs::Forms::fresh))]
+fn fresh(wires: &[Wire], name: &[u8]) -> Result<(), NetKind>
+    ensures value { result ≡ fresh wires.now name.now }
+    ensures name { OnOk result (is_name name.now ≡ true) }
+{
+    demand(is_name(name), NetKind::BadName)?;
+    demand(!is_wire(wires, name), NetKind::Repeated)
+}
+
+fn has_room(wires: &[Wire]) -> Result<(), NetKind>
+    ensures value { result ≡ has_room wires.now }
+    ensures room { OnOk result (length wires.now < 512) }
+{
+    if wires.len() < MOST_WIRES {
+        Ok(())
+    } else {
+        Err(NetKind::TooMany)
+    }
+}
+
+// ---- names
+
+#[tactic(auto, unfolding(net_model::specs::Wires::place_of))]
+fn place_of(wires: &[Wire], name: &[u8]) -> Option<usize>
+    ensures value { result ≡ place_of wires.now name.now }
+    ensures within { IfSome result (λ place. place < length wires.now) }
+{
+    wires.iter().position(|wire| wire.name.bytes() == name)
+}
+
+fn is_wire(wires: &[Wire], name: &[u8]) -> bool
+    ensures { result ≡ is_wire wires.now name.now }
+{
+    place_of(wires, name).is_some()
+}
+
+#[tactic(auto, unfolding(crate::specs::Forms::is_known))]
+fn is_known(text: &[u8], wires: &[Wire], name: &[u8]) -> bool
+    ensures { result ≡ is_known (lines_of text.now) wires.now name.now }
+{
+    is_wire(wires, name) || is_defined(text, name)
+}
+
+// The word of an argument of this place and type; one that the routine doesn't have repeats the first.
+fn argument_word(line: &[u8], place: usize, ty: Option<Ty>) -> &[u8]
+    requires { place ≤ 2 }
+    ensures { result.now ≡ argument_word (words_of line.now) place ty }
+{
+    match ty {
+        Some(_) => word_at(line, FIRST_ARGUMENT + place),
+        None => word_at(line, FIRST_ARGUMENT),
+    }
+}
+
+fn are_known(text: &[u8], wires: &[Wire], routine: Routine, line: &[u8]) -> bool
+    ensures { result ≡ are_known (lines_of text.now) wires.now routine (words_of line.now) }
+{
+    let types = types_of(routine);
+    axis_is_known(text, wires, word_at(line, 2))
+        && is_known(text, wires, argument_word(line, 0, types.x))
+        && is_known(text, wires, argument_word(line, 1, types.y))
+        && is_known(text, wires, argument_word(line, 2, types.z))
+}
+
+fn axis_is_known(text: &[u8], wires: &[Wire], word: &[u8]) -> bool
+    ensures { result ≡ axis_passes (is_known (lines_of text.now) wires.now) word.now }
+{
+    !is_position(word) || is_known(text, wires, axis_name(word))
+}
+
+fn axis_is_reached(wires: &[Wire], word: &[u8]) -> bool
+    ensures { result ≡ axis_passes (is_wire wires.now) word.now }
+{
+    !is_position(word) || is_wire(wires, axis_name(word))
+}
+
+fn reached(wires: &[Wire], name: &[u8]) -> Result<usize, NetKind>
+    ensures value { result ≡ reached wires.now name.now }
+    ensures within { IfOk result (λ place. place < length wires.now) }
+{
+    place_of(wires, name).ok_or(NetKind::LaterWire)
+}
+
+// The wires that a routine is given.
+#[tactic(auto, unfolding(crate::specs::Forms::arguments_of))]
+fn arguments_of(wires: &[Wire], routine: Routine, line: &[u8]) -> Result<Arguments, NetKind>
+    requires { length wires.now ≤ 512 }
+    ensures value { result ≡ arguments_of wires.now routine (words_of line.now) }
+    ensures within { IfOk result (λ given. AreBelow (length wires.now) given) }
+{
+    let types = types_of(routine);
+    let x = reached(wires, argument_word(line, 0, types.x))?;
+    let y = reached(wires, argument_word(line, 1, types.y))?;
+    let z = reached(wires, argument_word(line, 2, types.z))?;
+    Ok(Arguments {
+        x: WireNo(x as u32),
+        y: WireNo(y as u32),
+        z: WireNo(z as u32),
+    })
+}
+
+fn is_output(outs: &[WireNo], place: Option<usize>) -> bool
+    ensures { result ≡ is_output outs.now place }
+{
+    match place {
+        Some(place) => has_number(outs, place),
+        None => false,
+    }
+}
+
+fn has_number(outs: &[WireNo], place: usize) -> bool
+    ensures { result ≡ list_any (λ o. o.0 == place) outs.now }
+{
+    outs.iter().any(|out| out.0 as usize == place)
+}
+
+// ---- numbers
+
+#[tactic(auto, using(crate::proofs::HeldNumbers::range_of_held))]
+fn range_of(kind: Kind, low: &[u8], high: &[u8]) -> Result<Item, NetKind>
+    ensures { result ≡ range_of kind low.now high.now }
+{
+    let lo = number(low).ok_or(NetKind::BadNumber)?;
+    let hi = number(high).ok_or(NetKind::BadNumber)?;
+    demand(is_range(kind, lo, hi), NetKind::OutOfRange)?;
+    Ok(Item::Input { lo, hi })
+}
+
+#[tactic(auto, using(crate::proofs::HeldNumbers::value_of_held))]
+fn value_of(kind: Kind, word: &[u8]) -> Result<Item, NetKind>
+    ensures { result ≡ value_of kind word.now }
+{
+    let value = number(word).ok_or(NetKind::BadNumber)?;
+    demand(kind_holds(kind, value), NetKind::OutOfRange)?;
+    Ok(Item::Const { value })
+}
+
+// The count of places, which stands behind the wires of a routine that shifts; 0 where it doesn't.
+#[tactic(auto, unfolding(crate::specs::Forms::shift_of))]
+fn shift_of(routine: Routine, line: &[u8]) -> Result<u8, NetKind>
+    ensures { result ≡ shift_of routine (words_of line.now) }
+{
+    if is_shifting(routine) {
+        places_at(word_at(line, FIRST_ARGUMENT + arity_of(routine)))
+    } else {
+        Ok(0)
+    }
+}
+
+#[tactic(auto, using(crate::proofs::HeldNumbers::places_at_held))]
+fn places_at(word: &[u8]) -> Result<u8, NetKind>
+    ensures { result ≡ places_at word.now }
+{
+    let sh = number(word).ok_or(NetKind::BadNumber)?;
+    demand(is_places(sh), NetKind::OutOfRange)?;
+    Ok(sh as u8)
+}
+
+fn is_places(sh: i64) -> bool
+    ensures { result ≡ (int_le (pos 0) sh && int_le sh (pos 15)) }
+{
+    0 <= sh && sh <= i64::from(GREATEST_SHIFT)
+}
+
+// ---- types
+
+fn kind_at(word: &[u8]) -> Result<Kind, NetKind>
+    ensures { result ≡ kind_at word.now }
+{
+    kind_of(word).ok_or(NetKind::BadType)
+}
+
+fn is_type(word: &[u8]) -> bool
+    ensures { result ≡ is_type word.now }
+{
+    kind_of(word).is_some() || is_position(word)
+}
+
+// Whether the type of an axis, a table or a map stands in the type's place.
+fn has_narrow(line: &[u8]) -> bool
+    ensures { result ≡ is_narrow (ty_of (nth (words_of line.now) 2)) }
+{
+    is_narrow(ty_of(word_at(line, 2)))
+}
+
+fn is_narrow(ty: Option<Ty>) -> bool
+    ensures { result ≡ is_narrow ty }
+{
+    matches!(ty, Some(Ty::U8 | Ty::S8 | Ty::U16 | Ty::S16))
+}
+
+// The kind that the wire of a block has by its type word, where the types of both agree.
+#[tactic(auto, unfolding(crate::specs::Forms::agreed))]
+fn agreed(wires: &[Wire], block: Block, word: &[u8]) -> Result<Kind, NetKind>
+    ensures { result ≡ agreed wires.now block word.now }
+{
+    let kind = kind_of(word).ok_or(NetKind::TypeDiffers)?;
+    demand(agrees(wires, kind, block), NetKind::TypeDiffers)?;
+    Ok(kind)
+}

@@ -1,0 +1,281 @@
+// Prints the canonical text of a network.
+ghost use Rattle.std.specs.Prelude.{◌≡◌, ◌++◌, [], ◌∷◌, true, pos, map, take, codes, IfOk, OnOk, if◌then◌else◌};
+ghost use Rattle.std.specs.Fmt.{signed_decimal};
+ghost use Rattle.text_words.specs.Printed.{behind_spaces, spaced, word_lines};
+ghost use Rattle.net_model.specs.Wires.{wire_at};
+ghost use Rattle.net_model.specs.Validity.{item_agrees, takes_block};
+ghost use Rattle.net_text.specs.Printing.{IsReadAgain, argument_words, block_name, kind_word, out_words, point_word, shift_words, text_of, wire_words};
+
+use crate::routine_word::{Routine, arity_of};
+use fx_routines::{Routine as Named, push_name, type_word};
+use itoa::Buffer;
+use net_model::{Block, Item, Kind, Network, Wire, WireNo, has_shift};
+use std::alloc::{AllocError, Global};
+
+/// The canonical text of a network: its wires and its outputs in their order, a line each, with one
+/// space between words and no comment.
+#[tactic(auto, using(crate::proofs::PrintedPieces::word_lines_append), unfolding(crate::specs::Printing::text_of))]
+pub fn print_net(alloc: Global, net: &Network) -> Result<Vec<u8>, AllocError>
+    ensures { IfOk result (λ text. text.items ≡ text_of net.now) }
+{
+    let mut text = Vec::from_slice(alloc, b"net 1\n")?;
+    push_wires(&mut text, net)?;
+    push_outs(&mut text, net)?;
+    Ok(text)
+}
+
+/// A valid network is read again from its canonical text.
+pub fn law_of_printing()
+    ensures { IsReadAgain }
+{}
+
+// Appends the lines of the wires.
+fn push_wires(text: &mut Vec<u8>, net: &Network) -> Result<(), AllocError>
+    ensures { OnOk result (text.new.items ≡ text.old.items ++ word_lines (map (wire_words net.now.wires) net.now.wires)) }
+{
+    let wires = net.wires();
+    for wire in wires {
+        push_wire_line(text, wires, wire)?;
+    }
+    Ok(())
+}
+
+// Appends the lines of the outputs.
+fn push_outs(text: &mut Vec<u8>, net: &Network) -> Result<(), AllocError>
+    ensures { OnOk result (text.new.items ≡ text.old.items ++ word_lines (map (out_words net.now.wires) net.now.outs)) }
+{
+    let wires = net.wires();
+    for out in net.outs() {
+        push_out_line(text, wires, *out)?;
+    }
+    Ok(())
+}
+
+fn push_out_line(text: &mut Vec<u8>, wires: &[Wire], out: WireNo) -> Result<(), AllocError>
+    ensures { OnOk result (text.new.items ≡ text.old.items ++ (spaced (out_words wires.now out) ++ 10 ∷ [])) }
+{
+    text.extend_from_slice(b"out")?;
+    push_word(text, name_of(wires, out))?;
+    text.push(b'\n')?;
+    Ok(())
+}
+
+fn push_wire_line(text: &mut Vec<u8>, wires: &[Wire], wire: &Wire) -> Result<(), AllocError>
+    requires { item_agrees wires.now wire.now.kind wire.now.item ≡ true }
+    ensures { OnOk result (text.new.items ≡ text.old.items ++ (spaced (wire_words wires.now wire.now) ++ 10 ∷ [])) }
+{
+    push_wire(text, wires, wire)?;
+    text.push(b'\n')?;
+    Ok(())
+}
+
+// Appends the words of a wire's line.
+fn push_wire(text: &mut Vec<u8>, wires: &[Wire], wire: &Wire) -> Result<(), AllocError>
+    requires { item_agrees wires.now wire.now.kind wire.now.item ≡ true }
+    ensures { OnOk result (text.new.items ≡ text.old.items ++ spaced (wire_words wires.now wire.now)) }
+{
+    let name = wire.name.bytes();
+    match wire.item {
+        Item::Input { lo, hi } => push_input(text, name, wire.kind, lo, hi),
+        Item::Const { value } => push_const(text, name, wire.kind, value),
+        Item::Block(block) => push_block(text, wires, name, wire.kind, block),
+    }
+}
+
+fn push_input(
+    text: &mut Vec<u8>,
+    name: &[u8],
+    kind: Kind,
+    lo: i64,
+    hi: i64,
+) -> Result<(), AllocError>
+    ensures { OnOk result (text.new.items ≡ text.old.items ++ spaced (codes "in" ∷ name.now ∷ kind_word kind ∷ signed_decimal lo ∷ signed_decimal hi ∷ [])) }
+{
+    push_front(text, b"in", name, kind)?;
+    push_range(text, lo, hi)
+}
+
+// Appends the ends of a range, each behind a space.
+fn push_range(text: &mut Vec<u8>, lo: i64, hi: i64) -> Result<(), AllocError>
+    ensures { OnOk result (text.new.items ≡ text.old.items ++ behind_spaces (signed_decimal lo ∷ signed_decimal hi ∷ [])) }
+{
+    push_number(text, lo)?;
+    push_number(text, hi)
+}
+
+fn push_const(text: &mut Vec<u8>, name: &[u8], kind: Kind, value: i64) -> Result<(), AllocError>
+    ensures { OnOk result (text.new.items ≡ text.old.items ++ spaced (codes "const" ∷ name.now ∷ kind_word kind ∷ signed_decimal value ∷ [])) }
+{
+    push_front(text, b"const", name, kind)?;
+    push_number(text, value)
+}
+
+fn push_block(
+    text: &mut Vec<u8>,
+    wires: &[Wire],
+    name: &[u8],
+    kind: Kind,
+    block: Block,
+) -> Result<(), AllocError>
+    requires { takes_block block ≡ true }
+    ensures { OnOk result (text.new.items ≡ text.old.items ++ spaced (codes "wire" ∷ name.now ∷ kind_word kind ∷ codes "=" ∷ block_name block ∷ (argument_words wires.now block ++ shift_words block))) }
+{
+    push_front(text, b"wire", name, kind)?;
+    push_call(text, wires, block)
+}
+
+// Appends what stands behind the type of a block's wire.
+fn push_call(text: &mut Vec<u8>, wires: &[Wire], block: Block) -> Result<(), AllocError>
+    requires { takes_block block ≡ true }
+    ensures { OnOk result (text.new.items ≡ text.old.items ++ behind_spaces (codes "=" ∷ block_name block ∷ (argument_words wires.now block ++ shift_words block))) }
+{
+    push_routine(text, block)?;
+    push_given(text, wires, block)
+}
+
+// Appends the keyword, the name and the type that a wire's line begins with.
+fn push_front(text: &mut Vec<u8>, keyword: &[u8], name: &[u8], kind: Kind) -> Result<(), AllocError>
+    ensures { OnOk result (text.new.items ≡ text.old.items ++ spaced (keyword.now ∷ name.now ∷ kind_word kind ∷ [])) }
+{
+    text.extend_from_slice(keyword)?;
+    push_word(text, name)?;
+    push_kind(text, kind)
+}
+
+// Appends the name of a block's routine behind an equals sign.
+#[tactic(auto, using(crate::proofs::PrintedRoutines::arith_takes, crate::proofs::ScaledTypes::scaled_taken), unfolding(crate::specs::Printing::block_name))]
+fn push_routine(text: &mut Vec<u8>, block: Block) -> Result<(), AllocError>
+    requires { takes_block block ≡ true }
+    ensures { OnOk result (text.new.items ≡ text.old.items ++ behind_spaces (codes "=" ∷ block_name block ∷ [])) }
+{
+    text.extend_from_slice(b" = ")?;
+    match block {
+        Block::Arith { op, v, .. } => push_name(text, Named::Arith(op), v),
+        Block::Scaled { op, v, .. } => push_name(text, Named::Scaled(op), v),
+    }
+}
+
+// Appends what a block is given: its wires, and a count of places where its routine has one.
+#[tactic(auto, using(crate::proofs::PrintedPieces::behind_spaces_append))]
+fn push_given(text: &mut Vec<u8>, wires: &[Wire], block: Block) -> Result<(), AllocError>
+    ensures { OnOk result (text.new.items ≡ text.old.items ++ behind_spaces (argument_words wires.now block ++ shift_words block)) }
+{
+    push_arguments(text, wires, block)?;
+    push_shift(text, block)
+}
+
+// Appends the names of the wires that a block reads, each behind a space.
+fn push_arguments(text: &mut Vec<u8>, wires: &[Wire], block: Block) -> Result<(), AllocError>
+    ensures { OnOk result (text.new.items ≡ text.old.items ++ behind_spaces (argument_words wires.now block)) }
+{
+    match block {
+        Block::Arith { op, v, x, y, z, .. } => {
+            let count = arity_of(Routine::ArithOf(op, v));
+            push_names(text, wires, count, x, y, z)
+        }
+        Block::Scaled { op, v, x, y } => {
+            let count = arity_of(Routine::ScaledOf(op, v));
+            push_names(text, wires, count, x, y, x)
+        }
+    }
+}
+
+// Appends the names of the first `count` of three wires, each behind a space.
+fn push_names(
+    text: &mut Vec<u8>,
+    wires: &[Wire],
+    count: usize,
+    x: WireNo,
+    y: WireNo,
+    z: WireNo,
+) -> Result<(), AllocError>
+    ensures { OnOk result (text.new.items ≡ text.old.items ++ behind_spaces (take count ((wire_at wires.now x.0).name ∷ (wire_at wires.now y.0).name ∷ (wire_at wires.now z.0).name ∷ []))) }
+{
+    push_if(text, count > 0, name_of(wires, x))?;
+    push_if(text, count > 1, name_of(wires, y))?;
+    push_if(text, count > 2, name_of(wires, z))
+}
+
+// Appends the word behind a space, where it is there.
+fn push_if(text: &mut Vec<u8>, there: bool, word: &[u8]) -> Result<(), AllocError>
+    ensures { OnOk result (text.new.items ≡ text.old.items ++ (if there then 32 ∷ word.now else [])) }
+{
+    if there { push_word(text, word) } else { Ok(()) }
+}
+
+// Appends the count of places behind a space, where a block's routine has one.
+fn push_shift(text: &mut Vec<u8>, block: Block) -> Result<(), AllocError>
+    ensures { OnOk result (text.new.items ≡ text.old.items ++ behind_spaces (shift_words block)) }
+{
+    match block {
+        Block::Arith { op, sh, .. } => push_places(text, has_shift(op), sh),
+        Block::Scaled { .. } => Ok(()),
+    }
+}
+
+fn push_places(text: &mut Vec<u8>, there: bool, sh: u8) -> Result<(), AllocError>
+    ensures { OnOk result (text.new.items ≡ text.old.items ++ behind_spaces (if there then signed_decimal (pos sh) ∷ [] else [])) }
+{
+    if there {
+        push_number(text, i64::from(sh))
+    } else {
+        Ok(())
+    }
+}
+
+// Appends the type word of a kind behind a space.
+fn push_kind(text: &mut Vec<u8>, kind: Kind) -> Result<(), AllocError>
+    ensures { OnOk result (text.new.items ≡ text.old.items ++ 32 ∷ kind_word kind) }
+{
+    match kind {
+        Kind::Num(ty, point) => {
+            push_word(text, type_word(ty))?;
+            push_point(text, point)
+        }
+        Kind::Truth => push_word(text, b"bool"),
+    }
+}
+
+// Appends a binary point.
+fn push_point(text: &mut Vec<u8>, point: u8) -> Result<(), AllocError>
+    ensures { OnOk result (text.new.items ≡ text.old.items ++ point_word point) }
+{
+    if point == 0 {
+        return Ok(());
+    }
+    text.push(b'.')?;
+    push_digits(text, i64::from(point))
+}
+
+// Appends a number behind a space.
+fn push_number(text: &mut Vec<u8>, number: i64) -> Result<(), AllocError>
+    ensures { OnOk result (text.new.items ≡ text.old.items ++ 32 ∷ signed_decimal number) }
+{
+    text.push(b' ')?;
+    push_digits(text, number)
+}
+
+fn push_digits(text: &mut Vec<u8>, number: i64) -> Result<(), AllocError>
+    ensures { OnOk result (text.new.items ≡ text.old.items ++ signed_decimal number) }
+{
+    let mut digits = Buffer::new();
+    text.extend_from_slice(digits.format(number).as_bytes())
+}
+
+// Appends a word behind a space.
+fn push_word(text: &mut Vec<u8>, word: &[u8]) -> Result<(), AllocError>
+    ensures { OnOk result (text.new.items ≡ text.old.items ++ 32 ∷ word.now) }
+{
+    text.push(b' ')?;
+    text.extend_from_slice(word)
+}
+
+// The name of a wire.
+fn name_of(wires: &[Wire], wire: WireNo) -> &[u8]
+    ensures { result.now ≡ (wire_at wires.now wire.0).name }
+{
+    match wires.get(wire.0 as usize) {
+        Some(wire) => wire.name.bytes(),
+        None => b"",
+    }
+}

@@ -1,0 +1,110 @@
+// Reads the names of routines.
+ghost use Rattle.std.specs.Prelude.{◌≡◌, ◌≤◌, slice_get};
+ghost use Rattle.net_text.specs.RoutineWords.{arity_of, block_of, built_at, if_built, is_built_routine, is_shifting, routine_at, types_of};
+
+use fx_routines::{Routine as Named, routine_named};
+use mfx_arith::{ArithOp, Variant};
+use mfx_scaled::ScaledOp;
+use net_model::{
+    ArgumentTypes, Block, NetKind, WireNo, argument_types, has_shift, is_built, scaled_types,
+};
+
+/// A routine: what it computes, and its types.
+#[derive(Clone, Copy, Debug, PartialEq, Eq)]
+pub enum Routine {
+    ArithOf(ArithOp, Variant),
+    ScaledOf(ScaledOp, Variant),
+}
+
+/// The wires that a routine is given. One that it doesn't have repeats the first.
+#[derive(Clone, Copy, Debug, PartialEq, Eq)]
+pub struct Arguments {
+    pub x: WireNo,
+    pub y: WireNo,
+    pub z: WireNo,
+}
+
+/// The routine of a name. A name that no routine has is another fault than one whose routine isn't built.
+#[tactic(auto, unfolding(crate::specs::RoutineWords::routine_at))]
+pub fn routine_at(word: &[u8]) -> Result<Routine, NetKind>
+    ensures { result ≡ routine_at word.now }
+{
+    let (routine, v) = routine_named(word).ok_or(NetKind::UnknownRoutine)?;
+    built_at(routine, v)
+}
+
+fn built_at(routine: Named, v: Variant) -> Result<Routine, NetKind>
+    ensures { result ≡ built_at routine v }
+{
+    match routine {
+        Named::Arith(op) => if_built(Routine::ArithOf(op, v)),
+        Named::Scaled(op) => if_built(Routine::ScaledOf(op, v)),
+        Named::NotBuilt => Err(NetKind::NotBuilt),
+    }
+}
+
+fn if_built(routine: Routine) -> Result<Routine, NetKind>
+    ensures { result ≡ if_built routine }
+{
+    if is_built_routine(routine) {
+        Ok(routine)
+    } else {
+        Err(NetKind::NotBuilt)
+    }
+}
+
+fn is_built_routine(routine: Routine) -> bool
+    ensures { result ≡ is_built_routine routine }
+{
+    match routine {
+        Routine::ArithOf(op, _) => is_built(op),
+        Routine::ScaledOf(_, _) => true,
+    }
+}
+
+/// How many wires a routine reads.
+pub fn arity_of(routine: Routine) -> usize
+    ensures value { result ≡ arity_of routine }
+    ensures few { result ≤ 3 }
+{
+    match routine {
+        Routine::ArithOf(ArithOp::Abs, _) => 1,
+        Routine::ArithOf(ArithOp::MulDiv | ArithOp::Limit | ArithOp::RateLimiter, _) => 3,
+        Routine::ArithOf(_, _) => 2,
+        Routine::ScaledOf(ScaledOp::Convert, _) => 1,
+        Routine::ScaledOf(_, _) => 2,
+    }
+}
+
+/// The types of the wires that a routine reads.
+pub fn types_of(routine: Routine) -> ArgumentTypes
+    ensures x { result.x ≡ slice_get (types_of routine) 0 }
+    ensures y { result.y ≡ slice_get (types_of routine) 1 }
+    ensures z { result.z ≡ slice_get (types_of routine) 2 }
+{
+    match routine {
+        Routine::ArithOf(op, v) => argument_types(op, v),
+        Routine::ScaledOf(op, v) => scaled_types(op, v),
+    }
+}
+
+/// Whether a count of places stands behind the wires of a routine.
+pub fn is_shifting(routine: Routine) -> bool
+    ensures { result ≡ is_shifting routine }
+{
+    match routine {
+        Routine::ArithOf(op, _) => has_shift(op),
+        Routine::ScaledOf(_, _) => false,
+    }
+}
+
+/// The block of a routine on wires that it is given, with a count of places.
+pub fn block_of(routine: Routine, given: Arguments, sh: u8) -> Block
+    ensures { result ≡ block_of routine given sh }
+{
+    let Arguments { x, y, z } = given;
+    match routine {
+        Routine::ArithOf(op, v) => Block::Arith { op, v, x, y, z, sh },
+        Routine::ScaledOf(op, v) => Block::Scaled { op, v, x, y },
+    }
+}
