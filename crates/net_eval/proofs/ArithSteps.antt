@@ -6,9 +6,9 @@ use Rattle.fx_core.specs.declared.word_type.Ty.{Ty}
 use Rattle.fx_core.specs.declared.quotient.Mode.TheVariants.{Zero}
 use Rattle.fx_core.specs.Types.{Holds, least_of, greatest_of, saturated, saturated_to}
 use Rattle.fx_core.specs.Values.{unsaturated}
-use Rattle.mfx_arith.specs.declared.operation.ArithOp.{ArithOp}
-use Rattle.mfx_arith.specs.declared.operation.ArithOp.TheVariants.{Add, Abs, MulDiv, Limit, Min, Max, RateLimiter}
-use Rattle.mfx_arith.specs.declared.operation.Variant.{Variant}
+use Rattle.fx_routines.specs.declared.operation.ArithOp.{ArithOp}
+use Rattle.fx_routines.specs.declared.operation.ArithOp.TheVariants.{Add, Abs, MulDiv, Limit, Min, Max, RateLimiter}
+use Rattle.fx_routines.specs.declared.operation.Variant.{Variant}
 use Rattle.mfx_arith.specs.Operations.{argument_types, AreHeld, HasArguments}
 use Rattle.mfx_arith.specs.Formulas.{arith_formula, quotient_of}
 use Rattle.mfx_arith.specs.Calls.{three_given, value_in, arith_value}

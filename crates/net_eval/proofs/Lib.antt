@@ -1,4 +1,5 @@
 pub mod StepFacts
 pub mod ArithSteps
+pub mod ScaledSteps
 pub mod RowFacts
 pub mod TestRows

@@ -7,13 +7,12 @@ use Rattle.std.proofs.lemmas.List.{get_or_append_left, get_or_push, length_push,
 use Rattle.std.proofs.lemmas.List.Recursion.{is_count_by}
 use Rattle.std.proofs.Math.ListN.{get_or-map}
 use Rattle.fx_core.specs.declared.word_type.Ty.{Ty}
-use Rattle.fx_core.specs.declared.quotient.Mode.TheVariants.{Zero}
-use Rattle.fx_core.specs.Types.{Holds, saturated, saturated_to}
-use Rattle.fx_core.specs.Values.{rounded_fraction}
+use Rattle.fx_core.specs.Types.{Holds}
 use Rattle.fx_core.proofs.TypeLaws.{saturated_held}
 use Rattle.mfx_arith.specs.Operations.{argument_types}
 use Rattle.mfx_arith.specs.Calls.{value_in, arith_value}
-use Rattle.net_model.specs.declared.first.ScaledOp.TheVariants.{Convert}
+use Rattle.mfx_scaled.specs.Calls.{scaled_value}
+use Rattle.mfx_scaled.specs.Operations.{argument_types as scaled_types}
 use Rattle.net_model.specs.declared.wires.WireNo.{WireNo}
 use Rattle.net_model.specs.declared.wires.Kind.{Kind}
 use Rattle.net_model.specs.declared.wires.Kind.TheVariants.{Num}
@@ -25,8 +24,6 @@ use Rattle.net_model.specs.Wires.{NetData, wire_at, kind_least, kind_greatest, a
 use Rattle.net_model.specs.Validity.{IsValid, kind_holds}
 use Rattle.net_model.proofs.ValidityFacts.{IsInKind, IsGiven, const-valid, arith-valid, scaled-valid, number_kind, point_of-valid}
 use Rattle.net_model.proofs.BuiltFacts.{shift_from_test}
-use Rattle.net_model.specs.Formulas.{scaled_formula}
-use Rattle.net_model.specs.Given.{one_given}
 use Rattle.net_meaning.specs.Cells.{Cell, plain, cell_at}
 use Rattle.net_meaning.specs.Blocks.{machine, machine_value_of, formula, state_formula, quotient_of, points_of}
 use Rattle.net_meaning.specs.Runs.{equation, equation_of, row_of, table}
@@ -38,6 +35,7 @@ use Rattle.net_eval.specs.Picking.{AreBelow}
 use Rattle.net_eval.specs.Typing.{AreTyped}
 use Rattle.net_eval.proofs.StepFacts.{outs_below}
 use Rattle.net_eval.proofs.ArithSteps.{arguments_held, arith_value-is, arith_value-same}
+use Rattle.net_eval.proofs.ScaledSteps.{scaled_arguments_held, scaled_value-is}
 
 -- what holds of each element and of one more
 push_each : {X : Type 0} (xs : List X) (x d : X) (P : ℕ → X → Type 0) (n : ℕ) → length xs ≡ n → ((k : ℕ) → k < n → P k (get_or xs k d)) → P n x → (k : ℕ) → k < suc n → P k (get_or (xs ++ x ∷ []) k d)
@@ -113,14 +111,14 @@ kind_held ty kind point v e h =
     (k.low, k.high)
 
 value_held : (net : NetData) (inputs values : List ℤ) (i : ℕ) (item : Item) → IsValid net → AreTyped net.wires inputs → i < length net.wires → (wire_at net.wires i).item ≡ item → IsInKind (wire_at net.wires i).kind (step_value (item_step net.wires i item) inputs values)
-unfolding arith_value value_in
+unfolding arith_value scaled_value value_in
 value_held net inputs values i (Input lo hi) valid typed lt e = in_kind _ _ (typed i lt (ap is_input e))
 value_held net inputs values i (Const value) valid typed lt e = const-valid net i value valid lt e
 value_held net inputs values i (OfBlock (Arith op v x y z sh)) valid typed lt e =
     let k = number_kind v.o (wire_at net.wires i).kind (arith-valid net i op v x y z sh valid lt e).output in
     held_in_kind v.o _ k.0 _ k.1 (saturated_held v.o _)
-value_held net inputs values i (OfBlock (Scaled Convert v x y)) valid typed lt e =
-    let k = number_kind v.o (wire_at net.wires i).kind (scaled-valid net i Convert v x y valid lt e).output in
+value_held net inputs values i (OfBlock (Scaled op v x y)) valid typed lt e =
+    let k = number_kind v.o (wire_at net.wires i).kind (scaled-valid net i op v x y valid lt e).output in
     held_in_kind v.o _ k.0 _ k.1 (saturated_held v.o _)
 
 -- each of the first values lies in its kind
@@ -155,10 +153,10 @@ item_ready net inputs values i (OfBlock (Arith op v x y z sh)) valid one_each lt
     let g = arith-valid net i op v x y z sh valid lt e in
     let types = argument_types op v in
     (omega (arith, len, g.earlier_x), omega (arith, len, g.earlier_y), omega (arith, len, g.earlier_z), g.taken, arguments_held op v _ _ _ (given_held net.wires values i x (slice_get types 0) x held g.first) (given_held net.wires values i x (slice_get types 1) y held g.second) (given_held net.wires values i x (slice_get types 2) z held g.third), shift_from_test op sh g.shift)
-item_ready net inputs values i (OfBlock (Scaled Convert v x y)) valid one_each lt len held e =
-    let g = scaled-valid net i Convert v x y valid lt e in
-    let k = number_kind v.x (wire_at net.wires x.0).kind g.first.number in
-    (omega (arith, len, g.first.earlier), kind_held v.x _ k.0 _ k.1 (held x.0 g.first.earlier), point_of-valid net x.0 valid (omega (arith, lt, g.first.earlier)), point_of-valid net i valid lt)
+item_ready net inputs values i (OfBlock (Scaled op v x y)) valid one_each lt len held e =
+    let g = scaled-valid net i op v x y valid lt e in
+    let types = scaled_types op v in
+    (omega (arith, len, g.earlier_x), omega (arith, len, g.earlier_y), scaled_arguments_held op v _ _ (given_held net.wires values i x (slice_get types 0) x held g.first) (given_held net.wires values i x (slice_get types 1) y held g.second), point_of-valid net x.0 valid (omega (arith, lt, g.earlier_x)), point_of-valid net y.0 valid (omega (arith, lt, g.earlier_y)), point_of-valid net i valid lt)
 
 all_ready : (net : NetData) (inputs : List ℤ) → IsValid net → length inputs ≡ length (inputs_of net.wires) → AreTyped net.wires inputs → AreReady (steps_of net.wires (length net.wires)) inputs
 all_ready net inputs valid one_each typed i below =
@@ -168,9 +166,6 @@ all_ready net inputs valid one_each typed i below =
     lt = omega (arith, below, length-steps_of net.wires (length net.wires))
 
 -- ---- the values are the row's
-
-saturated_kind : (ty : Ty) (kind : Kind) (point : ℕ) (z : ℤ) → kind ≡ Num ty point → saturated ty z ≡ saturated_to (kind_least kind) (kind_greatest kind) z
-saturated_kind ty kind point z e = ap (λ k. saturated_to (kind_least k) (kind_greatest k) z) (sym e)
 
 -- the values of a row's cells
 abbrev values : List (Cell ℤ) → List ℤ
@@ -188,10 +183,11 @@ step_cell net inputs rows past cells i (OfBlock (Arith op v x y z sh)) valid lt 
     let k = number_kind v.o (wire_at net.wires i).kind (arith-valid net i op v x y z sh valid lt e).output in
     arith_value-same op v.o _ _ _ _ _ _ sh (value_at-values cells x.0) (value_at-values cells y.0) (value_at-values cells z.0)
     ∙ arith_value-is op v.o (wire_at net.wires i).kind k.0 (λ p. (cell_at machine (cells ∷ past) 0 (argument_of (Arith op v x y z sh) p)).value) sh k.1
-step_cell net inputs rows past cells i (OfBlock (Scaled Convert v x y)) valid lt e =
-    let k = number_kind v.o (wire_at net.wires i).kind (scaled-valid net i Convert v x y valid lt e).output in
-    ap (λ s. saturated v.o (rounded_fraction Zero (scaled_formula Convert (points_of net.wires (wire_at net.wires i).kind (Scaled Convert v x y)) (one_given s)))) (value_at-values cells x.0)
-    ∙ saturated_kind v.o (wire_at net.wires i).kind k.0 _ k.1
+step_cell net inputs rows past cells i (OfBlock (Scaled op v x y)) valid lt e =
+    let k = number_kind v.o (wire_at net.wires i).kind (scaled-valid net i op v x y valid lt e).output in
+    let points = points_of net.wires (wire_at net.wires i).kind (Scaled op v x y) in
+    ap₂ (λ a b. scaled_value op v.o a b points) (value_at-values cells x.0) (value_at-values cells y.0)
+    ∙ scaled_value-is op v.o (wire_at net.wires i).kind k.0 (λ p. (cell_at machine (cells ∷ past) 0 (argument_of (Scaled op v x y) p)).value) points k.1
 
 -- one more value is that of one more cell
 values_next : (net : NetData) (inputs : List ℤ) (rows : List (List ℤ)) (past : List (List (Cell ℤ))) (n : ℕ) → IsValid net → n < length net.wires → values_of (steps_of net.wires (length net.wires)) inputs n ≡ values (row_of machine net.wires (inputs ∷ rows) past n) → step_value (step_at (steps_of net.wires (length net.wires)) n) inputs (values_of (steps_of net.wires (length net.wires)) inputs n) ≡ (equation machine net.wires (inputs ∷ rows) (cell_at machine (row_of machine net.wires (inputs ∷ rows) past n ∷ past)) n).value

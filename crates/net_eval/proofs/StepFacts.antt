@@ -4,8 +4,8 @@ use Rattle.std.specs.List.{list_all}
 use Rattle.std.proofs.lemmas.Bool.{and_parts}
 use Rattle.std.proofs.lemmas.List.{take_more_set, take_all}
 use Rattle.std.proofs.lemmas.List.Sums.{count_by_more_no, count_by_more_yes}
-use Rattle.net_model.specs.declared.first.ScaledOp.{ScaledOp}
-use Rattle.mfx_arith.specs.declared.operation.Variant.{Variant}
+use Rattle.fx_routines.specs.declared.operation.ScaledOp.{ScaledOp}
+use Rattle.fx_routines.specs.declared.operation.Variant.{Variant}
 use Rattle.net_model.specs.declared.wires.WireNo.{WireNo}
 use Rattle.net_model.specs.declared.wires.Block.{Block}
 use Rattle.net_model.specs.declared.wires.Block.TheVariants.{Scaled}
@@ -18,11 +18,11 @@ use Rattle.net_eval.specs.declared.resolving.Step.{Step}
 use Rattle.net_eval.specs.Steps.{item_step, steps_of, step_at, step_value, values_of}
 use Rattle.net_eval.specs.Picking.{AreBelow}
 
--- the arguments of a conversion are wires
+-- the arguments of a form with binary points are wires
 pub scaled_there : (net : NetData) (i : ℕ) (b : Block) (op : ScaledOp) (v : Variant) (x y : WireNo) → IsValid net → i < length net.wires → (wire_at net.wires i).item ≡ OfBlock b → b ≡ Scaled op v x y → (x.0 < length net.wires) × (y.0 < length net.wires)
 scaled_there net i b op v x y valid lt e h =
     let g = scaled-valid net i op v x y valid lt (e ∙ ap OfBlock h) in
-    (omega (arith, g.first.earlier), omega (arith, g.first.earlier, g.second))
+    (omega (arith, g.earlier_x), omega (arith, g.earlier_y))
 
 -- a valid network's wires have small numbers
 pub few_wires : (net : NetData) → IsValid net → length net.wires ≤ 512

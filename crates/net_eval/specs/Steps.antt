@@ -1,11 +1,9 @@
 -- The steps of an evaluator, one for each wire, and the values that they give for one row.
 use Rattle.std.specs.Prelude.{ℕ, zero, suc, ◌<◌, ◌≤◌, ℤ, pos, List, [], ◌∷◌, ◌++◌, length, get_or}
-use Rattle.fx_core.specs.declared.quotient.Mode.TheVariants.{Zero}
-use Rattle.fx_core.specs.Types.{Holds, saturated}
-use Rattle.fx_core.specs.Values.{rounded_fraction}
 use Rattle.mfx_arith.specs.Calls.{arith_value}
 use Rattle.mfx_arith.specs.Operations.{Takes, HasArguments}
-use Rattle.net_model.specs.declared.first.ScaledOp.TheVariants.{Convert}
+use Rattle.mfx_scaled.specs.Calls.{scaled_value}
+use Rattle.mfx_scaled.specs.Operations.{HasArguments as HasScaledArguments}
 use Rattle.net_model.specs.declared.wires.Kind.{Kind}
 use Rattle.net_model.specs.declared.wires.Block.{Block}
 use Rattle.net_model.specs.declared.wires.Block.TheVariants.{Arith, Scaled}
@@ -13,16 +11,14 @@ use Rattle.net_model.specs.declared.wires.Item.{Item}
 use Rattle.net_model.specs.declared.wires.Item.TheVariants.{Input, Const, Block as OfBlock}
 use Rattle.net_model.specs.declared.wires.Wire.{Wire}
 use Rattle.net_model.specs.Wires.{wire_at, input_place}
-use Rattle.net_model.specs.Formulas.{scaled_formula}
-use Rattle.net_model.specs.Given.{one_given}
 use Rattle.net_meaning.specs.Blocks.{points_of}
 use Rattle.net_eval.specs.declared.resolving.Step.{Step}
-use Rattle.net_eval.specs.declared.resolving.Step.TheVariants.{Read, Fixed, Arith as ArithStep, Rescaled}
+use Rattle.net_eval.specs.declared.resolving.Step.TheVariants.{Read, Fixed, Arith as ArithStep, Scaled as ScaledStep}
 
 -- the step of a block on a wire of a kind
 abbrev pub block_step : List Wire → Kind → Block → Step
 block_step wires kind (Arith op v x y z sh) = ArithStep op v x.0 y.0 z.0 sh
-block_step wires kind (Scaled Convert v x y) = Rescaled v x.0 (points_of wires kind (Scaled Convert v x y))
+block_step wires kind (Scaled op v x y) = ScaledStep op v x.0 y.0 (points_of wires kind (Scaled op v x y))
 
 -- the step of wire i, by its item
 abbrev pub item_step : List Wire → ℕ → Item → Step
@@ -48,19 +44,19 @@ abbrev pub step_value : Step → List ℤ → List ℤ → ℤ
 step_value (Read place) inputs values = value_at inputs place
 step_value (Fixed value) inputs values = value
 step_value (ArithStep op v x y z sh) inputs values = arith_value op v.o (value_at values x) (value_at values y) (value_at values z) sh
-step_value (Rescaled v x points) inputs values = saturated v.o (rounded_fraction Zero (scaled_formula Convert points (one_given (value_at values x))))
+step_value (ScaledStep op v x y points) inputs values = scaled_value op v.o (value_at values x) (value_at values y) points
 
 -- the values of the first n steps
 unfoldable pub values_of : List Step → List ℤ → ℕ → List ℤ
 values_of steps inputs zero = []
 values_of steps inputs (suc n) = values_of steps inputs n ++ step_value (step_at steps n) inputs (values_of steps inputs n) ∷ []
 
--- a step's arguments are there, in the types of its routine, and a routine takes its types and its count of places
+-- a step's arguments are there, in the types of its routine, and a routine takes its types, its count of places and its points
 abbrev pub IsReady : Step → List ℤ → List ℤ → Type 0
 IsReady (Read place) inputs values = place < length inputs
 IsReady (Fixed value) inputs values = Unit {0}
 IsReady (ArithStep op v x y z sh) inputs values = (x < length values) × (y < length values) × (z < length values) × Takes op v × HasArguments op v (value_at values x) (value_at values y) (value_at values z) × (sh ≤ 15)
-IsReady (Rescaled v x points) inputs values = (x < length values) × Holds v.x (value_at values x) × (points.a ≤ 15) × (points.c ≤ 15)
+IsReady (ScaledStep op v x y points) inputs values = (x < length values) × (y < length values) × HasScaledArguments op v (value_at values x) (value_at values y) × (points.a ≤ 15) × (points.b ≤ 15) × (points.c ≤ 15)
 
 -- each step is ready when its turn comes
 abbrev pub AreReady : List Step → List ℤ → Type 0

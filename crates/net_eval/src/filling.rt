@@ -5,9 +5,7 @@ ghost use Rattle.net_eval.specs.Steps.{AreReady, IsReady, step_value, value_at, 
 ghost use Rattle.net_eval.specs.Picking.{AreBelow};
 
 use crate::resolving::Step;
-use mfx_arith::call;
 use net_model::WireNo;
-use net_model::first::convert;
 
 /// Evaluates one row: the values of all steps into a buffer, and those of the output wires into `out`.
 pub(crate) fn evaluate(
@@ -47,8 +45,16 @@ fn value_of(step: Step, inputs: &[i64], values: &[i64]) -> i64
     match step {
         Step::Read { place } => inputs[place],
         Step::Fixed { value } => value,
-        Step::Arith { op, v, x, y, z, sh } => call(op, v, values[x], values[y], values[z], sh),
-        Step::Rescaled { v, x, points } => convert(v, values[x], points),
+        Step::Arith { op, v, x, y, z, sh } => {
+            mfx_arith::call(op, v, values[x], values[y], values[z], sh)
+        }
+        Step::Scaled {
+            op,
+            v,
+            x,
+            y,
+            points,
+        } => { mfx_scaled::call(op, v, values[x], values[y], points) }
     }
 }
 

@@ -6,7 +6,7 @@ ghost use Rattle.net_model.specs.Validity.{IsValid};
 ghost use Rattle.net_eval.specs.Steps.{block_step, item_step, steps_of};
 
 use mfx_arith::{ArithOp, Variant};
-use net_model::first::{Points, ScaledOp};
+use mfx_scaled::{Points, ScaledOp};
 use net_model::{Block, Item, Kind, Network, WireNo};
 use std::alloc::{AllocError, Global};
 
@@ -30,10 +30,12 @@ pub(crate) enum Step {
         z: usize,
         sh: u8,
     },
-    /// The value of an earlier wire at another binary point.
-    Rescaled {
+    /// What a form with binary points makes of the values of earlier wires.
+    Scaled {
+        op: ScaledOp,
         v: Variant,
         x: usize,
+        y: usize,
         points: Points,
     },
 }
@@ -86,15 +88,15 @@ fn block_step(net: &Network, wire: WireNo, block: Block) -> Step
             z: z.0 as usize,
             sh,
         },
-        Block::Scaled { op, v, x, y } => match op {
-            ScaledOp::Convert => Step::Rescaled {
-                v,
-                x: x.0 as usize,
-                points: Points {
-                    a: point_at(net, x),
-                    b: point_at(net, y),
-                    c: point_at(net, wire),
-                },
+        Block::Scaled { op, v, x, y } => Step::Scaled {
+            op,
+            v,
+            x: x.0 as usize,
+            y: y.0 as usize,
+            points: Points {
+                a: point_at(net, x),
+                b: point_at(net, y),
+                c: point_at(net, wire),
             },
         },
     }

@@ -4,7 +4,11 @@ ghost use Rattle.net_model.specs.Validity.{kind_holds};
 ghost use Rattle.net_eval.specs.Typing.{AreTyped};
 
 use crate::Plan;
-use net_model::{Kind, Network, read_network};
+use fx_core::Ty;
+use mfx_arith::{ArithOp, Variant};
+use mfx_scaled::ScaledOp;
+use net_model::{Block, Draft, Item, Kind, Name, Network, Wire, WireNo};
+use std::alloc::Global;
 use std::test::Fail;
 
 // Whether the number is one of the kind.
@@ -55,46 +59,61 @@ fn answer(net: &Network, plan: &mut Plan, row: &[i64]) -> Option<i64>
     Some(out[0])
 }
 
-#[test]
-fn evaluates_rows(rt: HostRuntime) -> Result<(), Fail> {
-    let text =
-        b"net 1\nin a s16 0 1000\nin b s16.4 -160 160\nwire c s16 = Mfx_ConvertP2_s16_s16 b\nwire s s16 = Mfx_Add_s16s16_s16 a c\nout s\n";
-    let net = read_network(rt.alloc(), text)?;
-    let mut plan = Plan::new(rt.alloc(), &net)?;
-    assert_eq!(rt; answer(&net, &mut plan, &[5, -1]), Some(5));
-    plan.reset();
-    assert_eq!(rt; answer(&net, &mut plan, &[1000, 160]), Some(1010));
-    Ok(())
+const SAME: Variant = Variant {
+    x: Ty::S16,
+    y: Ty::S16,
+    o: Ty::S16,
+};
+
+const A: WireNo = WireNo(0);
+
+const B: WireNo = WireNo(1);
+
+fn arith(op: ArithOp, x: WireNo, y: WireNo, z: WireNo, sh: u8) -> Item {
+    let v = SAME;
+    Item::Block(Block::Arith { op, v, x, y, z, sh })
 }
 
+fn scaled(op: ScaledOp, x: WireNo, y: WireNo) -> Item {
+    Item::Block(Block::Scaled { op, v: SAME, x, y })
+}
+
+// An input at the binary point 0, another at the point 4, and a wire of both at the point 0.
+fn network(alloc: Global, item: Item) -> Result<Network, Fail> {
+    let input = Item::Input { lo: -99, hi: 99 };
+    let mut wires = Vec::new(alloc);
+    for (name, point, item) in [
+        (b"a".as_slice(), 0, input),
+        (b"b".as_slice(), 4, input),
+        (b"w".as_slice(), 0, item),
+    ] {
+        let name = Name::new(alloc, name)?;
+        let kind = Kind::Num(Ty::S16, point);
+        wires.push(Wire { name, kind, item })?;
+    }
+    let outs = vec![in alloc; WireNo(2)]?;
+    Ok(Network::new(alloc, Draft { wires, outs })?)
+}
+
+// Each at -7 and 3.
 #[test]
-fn evaluates_arithmetic(rt: HostRuntime) -> Result<(), Fail> {
-    let table: [(&[u8], i64); 5] = [
-        (
-            b"net 1\nin a s16 -99 99\nin b s16 -99 99\nwire w s16 = Mfx_Mul_s16s16_s16 a b\nout w\n",
-            -21,
-        ),
-        (
-            b"net 1\nin a s16 -99 99\nin b s16 -99 99\nwire w s16 = Mfx_Div_s16s16_s16 a b\nout w\n",
-            -2,
-        ),
-        (
-            b"net 1\nin a s16 -99 99\nin b s16 -99 99\nwire w s16 = Mfx_MulDiv_s16s16s16_s16 a a b\nout w\n",
-            16,
-        ),
-        (
-            b"net 1\nin a s16 -99 99\nin b s16 -99 99\nwire w s16 = Mfx_Limit_s16 a b b\nout w\n",
-            3,
-        ),
-        (
-            b"net 1\nin a s16 -99 99\nin b s16 -99 99\nwire w s16 = Mfx_MulShRight_s16s16u8_s16 a b 1\nout w\n",
-            -10,
-        ),
+fn evaluates_rows(rt: HostRuntime) -> Result<(), Fail> {
+    let table: [(Item, i64); 9] = [
+        (arith(ArithOp::Mul, A, B, A, 0), -21),
+        (arith(ArithOp::Div, A, B, A, 0), -2),
+        (arith(ArithOp::MulDiv, A, A, B, 0), 16),
+        (arith(ArithOp::Limit, A, B, B, 0), 3),
+        (arith(ArithOp::MulShRight, A, B, A, 1), -10),
+        (scaled(ScaledOp::Convert, B, B), 0),
+        (scaled(ScaledOp::Add, A, B), -6),
+        (scaled(ScaledOp::Mul, A, B), -1),
+        (scaled(ScaledOp::Div, A, B), -37),
     ];
-    for (text, want) in table {
-        assert!(rt; text.len() < 1000);
-        let net = read_network(rt.alloc(), text)?;
+    for (item, want) in table {
+        let net = network(rt.alloc(), item)?;
         let mut plan = Plan::new(rt.alloc(), &net)?;
+        assert_eq!(rt; answer(&net, &mut plan, &[-7, 3]), Some(want));
+        plan.reset();
         assert_eq!(rt; answer(&net, &mut plan, &[-7, 3]), Some(want));
     }
     Ok(())

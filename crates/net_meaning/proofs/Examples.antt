@@ -4,13 +4,13 @@ use Rattle.std.specs.Prelude.{◌≡◌, List, [], ◌∷◌, map, ℤ, pos, neg
 use Rattle.fx_core.specs.Rounding.{rounded}
 use Rattle.fx_fraction.specs.Fraction.{whole, over, plus, times}
 use Rattle.fx_core.specs.declared.word_type.Ty.TheVariants.{S16}
-use Rattle.mfx_arith.specs.declared.operation.ArithOp.TheVariants.{Add}
-use Rattle.net_model.specs.declared.first.ScaledOp.TheVariants.{Convert}
+use Rattle.fx_routines.specs.declared.operation.ArithOp.TheVariants.{Add}
+use Rattle.fx_routines.specs.declared.operation.ScaledOp.TheVariants.{Convert}
 use Rattle.net_model.specs.declared.wires.Kind.TheVariants.{Num}
 use Rattle.net_model.specs.declared.wires.Block.TheVariants.{Arith, Scaled}
 use Rattle.net_model.specs.declared.wires.Item.TheVariants.{Input, Block as OfBlock}
 use Rattle.net_model.specs.declared.wires.Wire.{Wire}
-use Rattle.net_model.specs.Formulas.{point_factor}
+use Rattle.mfx_scaled.specs.Formulas.{point_factor}
 use Rattle.net_meaning.specs.Cells.{cell_at}
 use Rattle.net_meaning.specs.Blocks.{formula, state_formula, quotient_of, machine, machine_state_of, machine_value_of, exact, exact_cell}
 use Rattle.net_meaning.specs.Runs.{equation_of, row_of, table}

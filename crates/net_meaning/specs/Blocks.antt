@@ -5,13 +5,13 @@ use Rattle.fx_core.specs.declared.quotient.Mode.{Mode}
 use Rattle.fx_core.specs.declared.quotient.Mode.TheVariants.{Zero, Near}
 use Rattle.fx_core.specs.Types.{saturated_to}
 use Rattle.fx_core.specs.Values.{rounded_fraction, unsaturated}
-use Rattle.net_model.specs.declared.first.Points.{Points}
+use Rattle.mfx_scaled.specs.declared.operation.Points.{Points}
 use Rattle.net_model.specs.declared.wires.Kind.{Kind}
 use Rattle.net_model.specs.declared.wires.Block.{Block}
 use Rattle.net_model.specs.declared.wires.Block.TheVariants.{Arith, Scaled}
 use Rattle.net_model.specs.declared.wires.Wire.{Wire}
 use Rattle.net_model.specs.Wires.{wire_at, argument_of, point_of, kind_least, kind_greatest}
-use Rattle.net_model.specs.Formulas.{scaled_formula}
+use Rattle.mfx_scaled.specs.Formulas.{scaled_formula, quotient_of as scaled_quotient}
 use Rattle.mfx_arith.specs.Formulas.{arith_formula, quotient_of as arith_quotient}
 use Rattle.net_meaning.specs.Cells.{Cell, Meaning}
 
@@ -37,7 +37,7 @@ state_formula wires (Scaled op v x y) given old = None
 -- the dividend and the divisor of a block that divides
 unfoldable pub quotient_of : List Wire → Kind → Block → (ℕ → ℕ → Fraction) → Option (Fraction × Fraction)
 quotient_of wires kind (Arith op v x y z sh) given = arith_quotient op sh (λ p. given p 0)
-quotient_of wires kind (Scaled op v x y) given = None
+quotient_of wires kind (Scaled op v x y) given = scaled_quotient op (points_of wires kind (Scaled op v x y)) (λ p. given p 0)
 
 -- the least and the greatest state Y, which has 16 fractional bits
 abbrev pub state_least : ℤ
