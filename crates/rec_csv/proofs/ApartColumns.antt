@@ -8,7 +8,7 @@ use Rattle.net_model.specs.declared.wires.WireNo.{WireNo}
 use Rattle.net_model.specs.declared.wires.Item.{Item}
 use Rattle.net_model.specs.declared.wires.Item.TheVariants.{Input, Const, Block as OfBlock}
 use Rattle.net_model.specs.declared.wires.Wire.{Wire}
-use Rattle.net_model.specs.Forms.{◌>>=◌}
+use Rattle.text_words.specs.Steps.{◌>>=◌}
 use Rattle.net_model.specs.Wires.{NetData, wire_at, with_input, inputs_from, inputs_of}
 use Rattle.net_model.specs.Validity.{IsValid, are_distinct}
 use Rattle.net_model.proofs.ValidityFacts.{conditions, length-valid}

@@ -11,7 +11,7 @@ use Rattle.net_model.specs.Wires.{wire_at, with_input, inputs_from, inputs_of}
 use Rattle.rec_csv.specs.declared.columns.Column.{Column}
 use Rattle.rec_csv.specs.declared.faults.HeadFault.{HeadFault}
 use Rattle.rec_csv.specs.declared.faults.HeadFault.TheVariants.{BadLine, Missing, Twice, OutOfMemory}
-use Rattle.net_model.specs.Forms.{◌>>=◌}
+use Rattle.text_words.specs.Steps.{◌>>=◌}
 use Rattle.rec_csv.specs.Fields.{trimmed}
 use Rattle.rec_csv.specs.Headers.{HeaderData, TellsHead, places_from, are_wires, prepended, columns_of, column_of}
 

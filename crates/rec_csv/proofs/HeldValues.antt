@@ -15,7 +15,7 @@ use Rattle.rec_csv.specs.declared.columns.Column.{Column}
 use Rattle.rec_csv.specs.declared.faults.RowFault.{RowFault}
 use Rattle.rec_csv.specs.declared.faults.RowFault.TheVariants.{BadNumber, OutOfType}
 use Rattle.rec_csv.specs.Fields.{trimmed}
-use Rattle.net_model.specs.Forms.{◌>>=◌}
+use Rattle.text_words.specs.Steps.{◌>>=◌}
 use Rattle.rec_csv.specs.Rows.{demand, value_of}
 
 -- the ends of a kind lie within 64 bits

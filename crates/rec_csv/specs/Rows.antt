@@ -2,7 +2,7 @@
 use Rattle.std.specs.Prelude.{ℕ, ◌≡◌, take, ⊤, Bool, true, false, List, [], ◌∷◌, length, nat_le, ℤ, Option, Some, None, ok_or, Result, Ok, Err}
 use Rattle.text_words.specs.Numbers.{number_of}
 use Rattle.net_model.specs.Validity.{kind_holds}
-use Rattle.net_model.specs.Forms.{◌>>=◌}
+use Rattle.text_words.specs.Steps.{◌>>=◌}
 use Rattle.rec_csv.specs.declared.faults.RowFault.{RowFault}
 use Rattle.rec_csv.specs.declared.faults.RowFault.TheVariants.{BadLine, BadWidth, BadNumber, OutOfType, OutOfMemory}
 use Rattle.rec_csv.specs.declared.columns.Column.{Column}

@@ -2,7 +2,8 @@ ghost use Rattle.std.specs.Prelude.{◌≡◌, length};
 
 use crate::plain_rows::is_plain;
 use crate::{Header, RowFault};
-use net_model::{WireNo, read_network};
+use fx_core::Ty;
+use net_model::{Draft, Item, Kind, Name, Network, Wire, WireNo};
 use std::alloc::Global;
 use std::process::Abort;
 use std::test::Fail;
@@ -87,12 +88,24 @@ fn expect_row(
     assert_eq!(rt; outcome.map(|()| values), expected, "{line:?}");
 }
 
+// A network of two inputs.
+fn two_inputs(alloc: Global) -> Result<Network, Fail> {
+    let mut wires = Vec::new(alloc);
+    for name in [b"a".as_slice(), b"b".as_slice()] {
+        let name = Name::new(alloc, name)?;
+        let kind = Kind::Num(Ty::S16, 0);
+        let item = Item::Input { lo: 0, hi: 100 };
+        wires.push(Wire { name, kind, item })?;
+    }
+    let outs = vec![in alloc; A]?;
+    Ok(Network::new(alloc, Draft { wires, outs })?)
+}
+
 // The columns stand in another order than the inputs, and a field of no input comes first.
 #[test]
 fn reads_rows(rt: HostRuntime) -> Result<(), Fail> {
     let alloc = rt.alloc();
-    let text = b"net 1\nin a s16 0 100\nin b s16.04 -160 160\nout a\n";
-    let net = read_network(alloc, text)?;
+    let net = two_inputs(alloc)?;
     assert_eq!(rt; net.inputs(), [A, B].as_slice());
     let header = Header::new(alloc, b"\"t\", b ,a", &net)?;
     for (line, plain, expected) in CASES {
