@@ -2,9 +2,9 @@
 use Rattle.std.specs.Prelude.{◌≡◌, ℕ, zero, suc, ◌+◌, ◌<◌, ◌≤◌, Bool, true, false, List, length, IsTrue, Option, Some, None}
 use Rattle.std.proofs.Common.{refl, ap, ◌∙◌, arith, inl, inr}
 use Rattle.std.proofs.lemmas.Bool.{cases_eq, false≢true}
-use Rattle.mfx_arith.specs.declared.operation.ArithOp.{ArithOp}
-use Rattle.mfx_arith.specs.declared.operation.ArithOp.TheVariants.{Mod}
-use Rattle.mfx_arith.specs.declared.operation.Variant.{Variant}
+use Rattle.fx_routines.specs.declared.operation.ArithOp.{ArithOp}
+use Rattle.fx_routines.specs.declared.operation.ArithOp.TheVariants.{Mod}
+use Rattle.fx_routines.specs.declared.operation.Variant.{Variant}
 use Rattle.net_model.specs.declared.wires.WireNo.{WireNo}
 use Rattle.net_model.specs.Built.{is_built}
 use Rattle.net_model.specs.declared.wires.Block.TheVariants.{Arith, Scaled}
@@ -13,10 +13,11 @@ use Rattle.net_model.specs.declared.wires.Item.TheVariants.{Input, Const, Block 
 use Rattle.net_model.specs.declared.wires.Wire.{Wire}
 use Rattle.net_model.specs.Wires.{NetData, wire_at, parts_of}
 use Rattle.net_model.specs.Validity.{IsValid}
+use Rattle.net_model.specs.Smooth.{is_smooth, IsSmooth}
 use Rattle.net_model.proofs.ValidityFacts.{arith-valid}
 use Rattle.cert_rules.specs.declared.bounds.Bounds.{Bounds}
 use Rattle.cert_rules.specs.ArithSoundness.{has_rule}
-use Rattle.cert_rules.specs.Acceptance.{is_smooth, IsSmooth, Accepts, is_sound_at, is_inductive_at, first_failing, or_later, first_rejected}
+use Rattle.cert_rules.specs.Acceptance.{Accepts, is_sound_at, is_inductive_at, first_failing, or_later, first_rejected}
 use Rattle.cert_rules.specs.Theorem.{AcceptsExactly, AllAreSmooth}
 
 some_is_not_none : (k : ℕ) → Some k ≡ None → ⊥

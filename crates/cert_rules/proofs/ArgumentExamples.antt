@@ -2,8 +2,8 @@
 -- and a second argument that the absolute value doesn't have isn't read.
 use Rattle.std.specs.Prelude.{◌≡◌, List, [], ◌∷◌, pos, refl, codes}
 use Rattle.fx_core.specs.declared.word_type.Ty.TheVariants.{S16}
-use Rattle.mfx_arith.specs.declared.operation.ArithOp.TheVariants.{Add, Mul, Abs}
-use Rattle.mfx_arith.specs.declared.operation.Variant.{Variant}
+use Rattle.fx_routines.specs.declared.operation.ArithOp.TheVariants.{Add, Mul, Abs}
+use Rattle.fx_routines.specs.declared.operation.Variant.{Variant}
 use Rattle.net_model.specs.declared.wires.Kind.TheVariants.{Num}
 use Rattle.net_model.specs.declared.wires.Block.TheVariants.{Arith}
 use Rattle.net_model.specs.declared.wires.Item.TheVariants.{Input, Block as OfBlock}

@@ -1,10 +1,10 @@
 -- The rule of a part depends on what it reads alone.
 use Rattle.std.proofs.Common.{◌≡◌, ℕ, zero, suc, ◌<◌, ◌≤◌, Bool, true, false, cond, not, ◌&&◌, ◌||◌, ◌==◌, List, length, refl, sym, ap, ◌∙◌, arith, None, eq-or-lt_of_le, inl, inr, eq-eqb}
-use Rattle.mfx_arith.specs.declared.operation.ArithOp.{ArithOp}
-use Rattle.mfx_arith.specs.declared.operation.ArithOp.TheVariants.{Add, Sub, AbsDiff, Abs, Mul, Div, Mod, MulDiv, MulShRight, DivShLeft, Limit, Min, Max, RateLimiter}
-use Rattle.net_model.specs.declared.first.Points.{Points}
-use Rattle.net_model.specs.declared.first.ScaledOp.{ScaledOp}
-use Rattle.net_model.specs.declared.first.ScaledOp.TheVariants.{Convert}
+use Rattle.fx_routines.specs.declared.operation.ArithOp.{ArithOp}
+use Rattle.fx_routines.specs.declared.operation.ArithOp.TheVariants.{Add, Sub, AbsDiff, Abs, Mul, Div, Mod, MulDiv, MulShRight, DivShLeft, Limit, Min, Max, RateLimiter}
+use Rattle.mfx_scaled.specs.declared.operation.Points.{Points}
+use Rattle.fx_routines.specs.declared.operation.ScaledOp.{ScaledOp}
+use Rattle.fx_routines.specs.declared.operation.ScaledOp.TheVariants.{Convert, Div}
 use Rattle.net_model.specs.declared.wires.Kind.{Kind}
 use Rattle.net_model.specs.declared.wires.Block.{Block}
 use Rattle.net_model.specs.declared.wires.Block.TheVariants.{Arith, Scaled}
@@ -19,11 +19,12 @@ use Rattle.net_model.specs.Validity.{IsValid}
 use Rattle.net_model.proofs.ValidityFacts.{argument_of-valid, get_or-parts_of, length-parts_of, value_part}
 use Rattle.net_meaning.specs.Blocks.{points_of}
 use Rattle.cert_rules.specs.declared.bounds.Bounds.{Bounds}
-use Rattle.cert_rules.specs.Ranges.{corner_values}
 use Rattle.cert_rules.specs.ArithCorners.{three}
 use Rattle.cert_rules.specs.ArithRules.{arith_arity, arith_bounds, arith_may_divide_by_zero, arith_values}
 use Rattle.cert_rules.specs.ArithSoundness.{has_rule}
-use Rattle.cert_rules.specs.Rules.{arguments_of, if_allowed, may_fail, proposed, rule_of, scaled_bounds}
+use Rattle.cert_rules.specs.ScaledCorners.{two}
+use Rattle.cert_rules.specs.ScaledRules.{scaled_arity, scaled_bounds, scaled_may_divide_by_zero, scaled_values}
+use Rattle.cert_rules.specs.Rules.{arguments_of, if_allowed, may_fail, proposed, rule_of}
 use Rattle.cert_rules.specs.Acceptance.{part_at}
 use Rattle.cert_rules.specs.Arguments.{AgreeFor, RulesReadTheirArguments, arity_of, is_among_first, reads, reads_at}
 
@@ -97,13 +98,30 @@ divisor_same op one other same =
 
 -- ---- and so do a form's with binary points
 
-scaled_of_first : (op : ScaledOp) (points : Points) (given : ℕ → Bounds) → scaled_bounds op points (λ q. given 0) ≡ scaled_bounds op points given
-unfolding scaled_bounds corner_values
-scaled_of_first Convert points given = refl
+abbrev form_kept : ScaledOp → (ℕ → Bounds) → ℕ → Bounds
+form_kept Convert given = two (given 0) (given 0)
+form_kept op given = two (given 0) (given 1)
 
-scaled_same : (op : ScaledOp) (points : Points) (one other : ℕ → Bounds) → one 0 ≡ other 0 → scaled_bounds op points one ≡ scaled_bounds op points other
-scaled_same op points one other same =
-    sym (scaled_of_first op points one) ∙ ap (λ (b : Bounds). scaled_bounds op points (λ q. b)) same ∙ scaled_of_first op points other
+form_bounds_of_kept : (op : ScaledOp) (points : Points) (given : ℕ → Bounds) → scaled_bounds op points (form_kept op given) ≡ scaled_bounds op points given
+unfolding scaled_bounds scaled_values
+form_bounds_of_kept Convert points given = refl
+form_bounds_of_kept op points given = refl
+
+form_divisor_of_kept : (op : ScaledOp) (given : ℕ → Bounds) → scaled_may_divide_by_zero op (form_kept op given) ≡ scaled_may_divide_by_zero op given
+form_divisor_of_kept Div given = refl
+form_divisor_of_kept op given = refl
+
+form_kept_same : (op : ScaledOp) (one other : ℕ → Bounds) → Same (scaled_arity op) one other → form_kept op one ≡ form_kept op other
+form_kept_same Convert one other same = ap (λ b. two b b) (same 0 (omega arith))
+form_kept_same op one other same = ap (λ b. two b (one 1)) (same 0 (omega arith)) ∙ ap (two (other 0)) (same 1 (omega arith))
+
+form_bounds_same : (op : ScaledOp) (points : Points) (one other : ℕ → Bounds) → Same (scaled_arity op) one other → scaled_bounds op points one ≡ scaled_bounds op points other
+form_bounds_same op points one other same =
+    sym (form_bounds_of_kept op points one) ∙ ap (scaled_bounds op points) (form_kept_same op one other same) ∙ form_bounds_of_kept op points other
+
+form_divisor_same : (op : ScaledOp) (one other : ℕ → Bounds) → Same (scaled_arity op) one other → scaled_may_divide_by_zero op one ≡ scaled_may_divide_by_zero op other
+form_divisor_same op one other same =
+    sym (form_divisor_of_kept op one) ∙ ap (scaled_may_divide_by_zero op) (form_kept_same op one other same) ∙ form_divisor_of_kept op other
 
 -- ---- the rule of a wire's value
 
@@ -115,7 +133,8 @@ may_same (Input lo hi) one other same = refl
 may_same (Const value) one other same = refl
 may_same (OfBlock (Arith op v x y z sh)) one other same =
     ap (λ t. not (has_rule op) || t) (divisor_same op (arguments_of (Arith op v x y z sh) one) (arguments_of (Arith op v x y z sh) other) (same (Arith op v x y z sh) refl))
-may_same (OfBlock (Scaled op v x y)) one other same = refl
+may_same (OfBlock (Scaled op v x y)) one other same =
+    form_divisor_same op (arguments_of (Scaled op v x y) one) (arguments_of (Scaled op v x y) other) (same (Scaled op v x y) refl)
 
 proposed_same : (wires : List Wire) (kind : Kind) (item : Item) (one other : ℕ → Bounds) → SameFor item one other → proposed wires kind item one ≡ proposed wires kind item other
 unfolding proposed
@@ -123,8 +142,8 @@ proposed_same wires kind (Input lo hi) one other same = refl
 proposed_same wires kind (Const value) one other same = refl
 proposed_same wires kind (OfBlock (Arith op v x y z sh)) one other same =
     bounds_same op sh (arguments_of (Arith op v x y z sh) one) (arguments_of (Arith op v x y z sh) other) (same (Arith op v x y z sh) refl)
-proposed_same wires kind (OfBlock (Scaled Convert v x y)) one other same =
-    scaled_same Convert (points_of wires kind (Scaled Convert v x y)) (arguments_of (Scaled Convert v x y) one) (arguments_of (Scaled Convert v x y) other) (same (Scaled Convert v x y) refl 0 (omega arith))
+proposed_same wires kind (OfBlock (Scaled op v x y)) one other same =
+    form_bounds_same op (points_of wires kind (Scaled op v x y)) (arguments_of (Scaled op v x y) one) (arguments_of (Scaled op v x y) other) (same (Scaled op v x y) refl)
 
 rule_same : (wires : List Wire) (i : ℕ) (one other : ℕ → Role → Bounds) → SameFor (wire_at wires i).item (λ w. one w Value) (λ w. other w Value) → rule_of wires i Value one ≡ rule_of wires i Value other
 unfolding rule_of

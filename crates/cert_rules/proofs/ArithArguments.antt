@@ -4,8 +4,8 @@ use Rattle.std.proofs.Common.{refl, arith}
 use Rattle.fx_fraction.specs.Fraction.{whole, over, distance, AtMost}
 use Rattle.fx_fraction.proofs.Order.{AtMost_trans, AtMost-over}
 use Rattle.fx_fraction.proofs.WholeNumbers.{int_le_refl, int_le_trans}
-use Rattle.mfx_arith.specs.declared.operation.ArithOp.{ArithOp}
-use Rattle.mfx_arith.specs.declared.operation.ArithOp.TheVariants.{Add, Sub, AbsDiff, Abs, Mul, Div, Mod, MulDiv, MulShRight, DivShLeft, Limit, Min, Max, RateLimiter}
+use Rattle.fx_routines.specs.declared.operation.ArithOp.{ArithOp}
+use Rattle.fx_routines.specs.declared.operation.ArithOp.TheVariants.{Add, Sub, AbsDiff, Abs, Mul, Div, Mod, MulDiv, MulShRight, DivShLeft, Limit, Min, Max, RateLimiter}
 use Rattle.cert_rules.specs.declared.bounds.Bounds.{Bounds}
 use Rattle.cert_rules.specs.Certificates.{IsWithin}
 use Rattle.cert_rules.specs.Entries.{IsSmall}
@@ -41,7 +41,7 @@ divisor_of_three other given = refl
 
 -- ---- its range isn't empty and its error isn't negative: the arguments' least values have their value within it
 
-corner_within : (b : Bounds) → IsSmall b → IsWithin b b.lo (whole b.lo)
+pub corner_within : (b : Bounds) → IsSmall b → IsWithin b b.lo (whole b.lo)
 corner_within b small =
     let same : AtMost (distance (whole b.lo) (whole b.lo)) (over (pos 0) 65536) = itself_within b.lo in
     record {

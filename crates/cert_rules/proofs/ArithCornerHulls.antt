@@ -3,8 +3,8 @@ use Rattle.std.specs.Prelude.{◌≡◌, ℕ, Bool, true, false, ◌&&◌, [], �
 use Rattle.std.specs.Int.{int_min, int_max}
 use Rattle.std.proofs.Common.{refl, sym, ap, ap₂, ◌∙◌, arith}
 use Rattle.std.proofs.lemmas.Int.{ints, clamps}
-use Rattle.mfx_arith.specs.declared.operation.ArithOp.{ArithOp}
-use Rattle.mfx_arith.specs.declared.operation.ArithOp.TheVariants.{Add, Sub, AbsDiff, Abs, Mul, Div, Mod, MulDiv, MulShRight, DivShLeft, Limit, Min, Max, RateLimiter}
+use Rattle.fx_routines.specs.declared.operation.ArithOp.{ArithOp}
+use Rattle.fx_routines.specs.declared.operation.ArithOp.TheVariants.{Add, Sub, AbsDiff, Abs, Mul, Div, Mod, MulDiv, MulShRight, DivShLeft, Limit, Min, Max, RateLimiter}
 use Rattle.cert_rules.specs.declared.bounds.Bounds.{Bounds}
 use Rattle.cert_rules.specs.Ranges.{least_among, greatest_among}
 use Rattle.cert_rules.specs.ArithRules.{arith_corner_values, arith_values}
@@ -12,14 +12,14 @@ use Rattle.cert_rules.specs.ArithCorners.{three, corner_value, least_over_third,
 
 -- ---- hulls of two, four and eight, for an operation that takes hulls
 
-record Joins (f : ℤ → ℤ → ℤ) : Type 0 where
-  itself : (a : ℤ) → f a a ≡ a
-  regroup : (a b c : ℤ) → f a (f b c) ≡ f (f a b) c
+pub record Joins (f : ℤ → ℤ → ℤ) : Type 0 where
+  pub itself : (a : ℤ) → f a a ≡ a
+  pub regroup : (a b c : ℤ) → f a (f b c) ≡ f (f a b) c
 
-least_joins : Joins int_min
+pub least_joins : Joins int_min
 least_joins = record { itself = λ a. omega (arith, ints, clamps); regroup = λ a b c. omega (arith, ints, clamps) }
 
-greatest_joins : Joins int_max
+pub greatest_joins : Joins int_max
 greatest_joins = record { itself = λ a. omega (arith, ints, clamps); regroup = λ a b c. omega (arith, ints, clamps) }
 
 -- where the third argument isn't looked at, and where the second isn't either
@@ -121,7 +121,7 @@ plain_greatest RateLimiter shift x y z h k = greatest_is RateLimiter shift x y z
 
 -- ---- absolute values
 
-four_joined : (f : ℤ → ℤ → ℤ) (a b c d : ℤ) (t : Bool) → fold f a (b ∷ c ∷ d ∷ (if t then pos 0 ∷ [] else [])) ≡ (if t then f (fold f a (b ∷ c ∷ d ∷ [])) (pos 0) else fold f a (b ∷ c ∷ d ∷ []))
+pub four_joined : (f : ℤ → ℤ → ℤ) (a b c d : ℤ) (t : Bool) → fold f a (b ∷ c ∷ d ∷ (if t then pos 0 ∷ [] else [])) ≡ (if t then f (fold f a (b ∷ c ∷ d ∷ [])) (pos 0) else fold f a (b ∷ c ∷ d ∷ []))
 four_joined f a b c d true = refl
 four_joined f a b c d false = refl
 

@@ -5,9 +5,10 @@ use Rattle.std.proofs.Common.{refl, sym, ap₂, ◌∙◌, arith, div-le_self, F
 use Rattle.std.proofs.lemmas.Int.{ints, to_z-of_z}
 use Rattle.std.proofs.lemmas.Nat.{pow_pos}
 use Rattle.fx_core.specs.Rounding.{power}
-use Rattle.mfx_arith.specs.declared.operation.ArithOp.TheVariants.{Add, Sub, AbsDiff, Abs, Mul, Div, MulDiv, MulShRight, DivShLeft, Limit, Min, Max, RateLimiter}
+use Rattle.fx_routines.specs.declared.operation.ArithOp.TheVariants.{Add, Sub, AbsDiff, Abs, Mul, Div, MulDiv, MulShRight, DivShLeft, Limit, Min, Max, RateLimiter}
+use Rattle.mfx_arith.proofs.WholeNumbers.{plus-whole, minus-whole, absolute-whole, times-whole, lesser-whole, greater-whole}
 use Rattle.cert_rules.specs.ArithCorners.{corner_value}
-use Rattle.cert_rules.proofs.ArithValues.{plus-whole, minus-whole, absolute-whole, abs_diff-whole, times-whole, lesser-whole, greater-whole, limit-whole, rate_limiter-whole, rounded-whole}
+use Rattle.cert_rules.proofs.ArithValues.{abs_diff-whole, limit-whole, rate_limiter-whole, rounded-whole}
 use Rattle.cert_rules.proofs.ArithQuotientValues.{rounded-divided}
 
 pub add_at : (shift : ℕ) (x y z : ℤ) → x +ℤ y ≡ corner_value Add shift x y z

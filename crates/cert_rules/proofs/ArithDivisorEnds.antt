@@ -2,8 +2,8 @@
 use Rattle.std.specs.Prelude.{◌≡◌, ◌≤◌, Bool, true, false, ℤ, ◌≤ℤ◌, unsigned_abs, None, Some, if◌then◌else◌}
 use Rattle.std.proofs.Common.{refl, ap, ap₂, ◌∙◌, arith}
 use Rattle.std.proofs.lemmas.Int.{ints}
-use Rattle.mfx_arith.specs.declared.operation.ArithOp.{ArithOp}
-use Rattle.mfx_arith.specs.declared.operation.ArithOp.TheVariants.{Add, Sub, AbsDiff, Abs, Mul, Div, Mod, MulDiv, MulShRight, DivShLeft, Limit, Min, Max, RateLimiter}
+use Rattle.fx_routines.specs.declared.operation.ArithOp.{ArithOp}
+use Rattle.fx_routines.specs.declared.operation.ArithOp.TheVariants.{Add, Sub, AbsDiff, Abs, Mul, Div, Mod, MulDiv, MulShRight, DivShLeft, Limit, Min, Max, RateLimiter}
 use Rattle.cert_rules.specs.declared.bounds.Bounds.{Bounds}
 use Rattle.cert_rules.specs.ArithRules.{arith_may_divide_by_zero, may_be_zero}
 use Rattle.cert_rules.specs.ArithCorners.{HasDivisorsAtEnds, three}
@@ -15,7 +15,7 @@ use Rattle.cert_rules.proofs.ArithQuotientValues.{one_sided_divisor}
 abbrev bounds_from : ℤ → ℤ → ℤ → Bounds
 bounds_from lo hi err = record { lo = lo; hi = hi; err = err }
 
-ends_of : (y : Bounds) → y.lo ≤ℤ y.hi → may_be_zero y ≡ false → (1 ≤ unsigned_abs y.lo) × (1 ≤ unsigned_abs y.hi)
+pub ends_of : (y : Bounds) → y.lo ≤ℤ y.hi → may_be_zero y ≡ false → (1 ≤ unsigned_abs y.lo) × (1 ≤ unsigned_abs y.hi)
 ends_of y h away =
     let low : IsInside y.lo y.hi y.lo = record { low = omega (arith, ints); high = h } in
     let high : IsInside y.lo y.hi y.hi = record { low = h; high = omega (arith, ints) } in

@@ -63,16 +63,16 @@ pub record IsQuotientError (top err : ℤ) (y : Bounds) (M E F L W : ℕ) : Type
   pub is : quotient_error top err y ≡ pos (rest + 65536)
   pub above : 65536 * (M * F + L * E) ≤ rest * (L * W)
 
-natural_above : (n d q : ℤ) (N D Q : ℕ) → n ≡ pos N → d ≡ pos D → q ≡ pos Q → n ≤ℤ (q *ℤ d) → N ≤ Q * D
+pub natural_above : (n d q : ℤ) (N D Q : ℕ) → n ≡ pos N → d ≡ pos D → q ≡ pos Q → n ≤ℤ (q *ℤ d) → N ≤ Q * D
 natural_above n d q N D Q h k p low = le_of-int_le _ _ (rw (h, k, p) at low)
 
-dividend_natural : (top err fel least : ℤ) (M E F L : ℕ) → top ≡ pos M → err ≡ pos E → fel ≡ pos F → least ≡ pos L → pos 65536 *ℤ (top *ℤ fel +ℤ least *ℤ err) ≡ pos (65536 * (M * F + L * E))
+pub dividend_natural : (top err fel least : ℤ) (M E F L : ℕ) → top ≡ pos M → err ≡ pos E → fel ≡ pos F → least ≡ pos L → pos 65536 *ℤ (top *ℤ fel +ℤ least *ℤ err) ≡ pos (65536 * (M * F + L * E))
 dividend_natural top err fel least M E F L h k p q = rw (h, k, p, q) refl
 
 left_over : (F L W : ℕ) → W + F ≡ 65536 * L → pos (65536 * L) -ℤ pos F ≡ pos W
 left_over F L W h = omega (arith, ints, h)
 
-divisor_natural : (fel least : ℤ) (F L W : ℕ) → fel ≡ pos F → least ≡ pos L → W + F ≡ 65536 * L → least *ℤ (pos 65536 *ℤ least -ℤ fel) ≡ pos (L * W)
+pub divisor_natural : (fel least : ℤ) (F L W : ℕ) → fel ≡ pos F → least ≡ pos L → W + F ≡ 65536 * L → least *ℤ (pos 65536 *ℤ least -ℤ fel) ≡ pos (L * W)
 divisor_natural fel least F L W h k e = rw (h, k, left_over F L W e) refl
 
 pub quotient_error_of : (top err : ℤ) (y : Bounds) (M E F L W : ℕ) → top ≡ pos M → err ≡ pos E → y.err ≡ pos F → least_reach y ≡ pos L → W + F ≡ 65536 * L → 1 ≤ L → 1 ≤ W → IsQuotientError top err y M E F L W

@@ -2,7 +2,7 @@
 use Rattle.std.proofs.Common.{◌≡◌, ℕ, zero, suc, true, false, ℤ, pos, negsuc, refl}
 use Rattle.fx_fraction.specs.Fraction.{whole, plus, minus, times, divided, quotient, lesser, greater, absolute}
 use Rattle.fx_core.specs.Rounding.{rounded, least_quotient_above}
-use Rattle.mfx_arith.specs.declared.operation.ArithOp.TheVariants.{Sub, AbsDiff, Abs, Mul, Div, MulDiv, MulShRight, DivShLeft, Limit, RateLimiter}
+use Rattle.fx_routines.specs.declared.operation.ArithOp.TheVariants.{Sub, AbsDiff, Abs, Mul, Div, MulDiv, MulShRight, DivShLeft, Limit, RateLimiter}
 use Rattle.cert_rules.specs.declared.bounds.Bounds.{Bounds}
 use Rattle.cert_rules.specs.ArithRules.{arith_bounds, arith_values, arith_may_divide_by_zero, product_error, shifted_error, quotient_error}
 

@@ -54,20 +54,24 @@ not_negative_abs l v p h = int_le-pos _ _ (omega (arith, ints, p, h))
 not_positive_abs : (v h : ℤ) → h ≤ℤ pos 0 → v ≤ℤ h → pos (unsigned_abs h) ≤ℤ pos (unsigned_abs v)
 not_positive_abs v h p k = int_le-pos _ _ (omega (arith, ints, p, k))
 
--- the absolute value of a number between l and h lies in a hull that holds those of l and h, and 0 where l and h are on
--- either side of it
-pub absolute_in_hull : (vs : List ℤ) (l v h : ℤ) → l ≤ℤ v → v ≤ℤ h → IsInHull vs (pos (unsigned_abs l)) → IsInHull vs (pos (unsigned_abs h)) → (l ≤ℤ pos 0 → pos 0 ≤ℤ h → IsInHull vs (pos 0)) → IsInHull vs (pos (unsigned_abs v))
-absolute_in_hull vs l v h low high p q zero =
+-- a function that keeps the order, at the absolute value of a number between l and h, lies in a hull that holds its values
+-- at those of l and h, and at 0 where l and h are on either side of it
+pub ordered_in_hull : (f : ℤ → ℤ) → ((a b : ℤ) → a ≤ℤ b → f a ≤ℤ f b) → (vs : List ℤ) (l v h : ℤ) → l ≤ℤ v → v ≤ℤ h → IsInHull vs (f (pos (unsigned_abs l))) → IsInHull vs (f (pos (unsigned_abs h))) → (l ≤ℤ pos 0 → pos 0 ≤ℤ h → IsInHull vs (f (pos 0))) → IsInHull vs (f (pos (unsigned_abs v)))
+ordered_in_hull f order vs l v h low high p q zero =
     elim (int_lt_or_le (pos 0) l) [
-      | inl above ↦ between_in_hull vs _ _ _ p q (inl (record { low = not_negative_abs l v (omega (arith, ints, above)) low; high = not_negative_abs v h (omega (arith, ints, above, low)) high }))
+      | inl above ↦ between_in_hull vs _ _ _ p q (inl (record { low = order _ _ (not_negative_abs l v (omega (arith, ints, above)) low); high = order _ _ (not_negative_abs v h (omega (arith, ints, above, low)) high) }))
       | inr below ↦ elim (int_lt_or_le h (pos 0)) [
-        | inl under ↦ between_in_hull vs _ _ _ q p (inl (record { low = not_positive_abs v h (omega (arith, ints, under)) high; high = not_positive_abs l v (omega (arith, ints, under, high)) low }))
+        | inl under ↦ between_in_hull vs _ _ _ q p (inl (record { low = order _ _ (not_positive_abs v h (omega (arith, ints, under)) high); high = order _ _ (not_positive_abs l v (omega (arith, ints, under, high)) low) }))
         | inr over ↦ elim (int_lt_or_le v (pos 0)) [
-          | inl down ↦ between_in_hull vs _ _ _ (zero below over) p (inl (record { low = int_le-pos _ _ (omega arith); high = not_positive_abs l v (omega (arith, ints, down)) low }))
-          | inr up ↦ between_in_hull vs _ _ _ (zero below over) q (inl (record { low = int_le-pos _ _ (omega arith); high = not_negative_abs v h up high }))
+          | inl down ↦ between_in_hull vs _ _ _ (zero below over) p (inl (record { low = order _ _ (int_le-pos _ _ (omega arith)); high = order _ _ (not_positive_abs l v (omega (arith, ints, down)) low) }))
+          | inr up ↦ between_in_hull vs _ _ _ (zero below over) q (inl (record { low = order _ _ (int_le-pos _ _ (omega arith)); high = order _ _ (not_negative_abs v h up high) }))
         ]
       ]
     ]
+
+-- the absolute value itself
+pub absolute_in_hull : (vs : List ℤ) (l v h : ℤ) → l ≤ℤ v → v ≤ℤ h → IsInHull vs (pos (unsigned_abs l)) → IsInHull vs (pos (unsigned_abs h)) → (l ≤ℤ pos 0 → pos 0 ≤ℤ h → IsInHull vs (pos 0)) → IsInHull vs (pos (unsigned_abs v))
+absolute_in_hull vs l v h low high p q zero = ordered_in_hull (λ z. z) (λ a b k. k) vs l v h low high p q zero
 
 -- ---- the corners of two and of three ranges
 

@@ -1,40 +1,23 @@
 -- Quotients of whole numbers, rounded toward zero: their value, how far it is from the quotient, and where it lies between
 -- the ends of ranges.
 use Rattle.std.specs.Prelude.{◌≡◌, ℕ, zero, suc, ◌*◌, ◌/◌, ◌≤◌, ◌<◌, ℤ, pos, negsuc, neg_ℤ, ◌-ℤ◌, ◌*ℤ◌, ◌≤ℤ◌, unsigned_abs, int_div}
-use Rattle.std.proofs.Common.{refl, ap, ap₂, ◌∙◌, arith, inl, inr, div-mul-le_self, le-div_iff_mul-le, mul-le-mul_left}
-use Rattle.std.proofs.Math.Nat.{zero-div}
+use Rattle.std.proofs.Common.{ap, ◌∙◌, arith, inl, inr, div-mul-le_self, le-div_iff_mul-le, mul-le-mul_left}
 use Rattle.std.proofs.lemmas.Int.{ints}
-use Rattle.fx_fraction.specs.Fraction.{Fraction, whole, divided, quotient}
+use Rattle.fx_fraction.specs.Fraction.{Fraction, whole, divided}
 use Rattle.fx_fraction.proofs.Polynomials.{differences, as_difference}
-use Rattle.fx_fraction.proofs.WholeNumbers.{int_mul-one}
 use Rattle.fx_core.specs.declared.quotient.Mode.TheVariants.{Zero}
 use Rattle.fx_core.specs.Rounding.{rounded}
 use Rattle.fx_core.specs.Values.{rounded_fraction}
 use Rattle.fx_core.proofs.RoundingLaws.{int_div_order, rounded-error}
+use Rattle.mfx_arith.proofs.WholeNumbers.{int_div-negsuc, rounded-divided as whole-rounded-divided}
 use Rattle.cert_rules.proofs.ArithHulls.{IsUp, IsBetween, IsInside, LiesBetween}
 use Rattle.cert_rules.proofs.ArithDivisors.{IsOneSided}
 
 -- ---- the value
 
--- the sign of the divisor moves to the dividend
-int_div-negsuc : (n : ℤ) (k : ℕ) → int_div (neg_ℤ n) (pos (suc k)) ≡ int_div n (negsuc k)
-int_div-negsuc (pos zero) k = rw zero-div refl
-int_div-negsuc (pos (suc n)) k = refl
-int_div-negsuc (negsuc n) k = refl
-
-rounded-quotient : (n d : ℤ) → 1 ≤ unsigned_abs d → rounded_fraction Zero (quotient n d) ≡ int_div n d
-unfolding quotient rounded
-rounded-quotient n (pos zero) h = absurd (omega arith)
-rounded-quotient n (pos (suc k)) h = refl
-rounded-quotient n (negsuc k) h = int_div-negsuc n k
-
-divided-whole : (n d : ℤ) → divided (whole n) (whole d) ≡ quotient n d
-unfolding divided whole
-divided-whole n d = ap₂ quotient (int_mul-one n) (int_mul-one d)
-
 -- a dividend that is a whole number over another one
 pub rounded-divided : (f : Fraction) (n d : ℤ) → f ≡ whole n → 1 ≤ unsigned_abs d → rounded_fraction Zero (divided f (whole d)) ≡ int_div n d
-rounded-divided f n d e h = ap (λ t. rounded_fraction Zero (divided t (whole d))) e ∙ ap (rounded_fraction Zero) (divided-whole n d) ∙ rounded-quotient n d h
+rounded-divided f n d e h = ap (λ t. rounded_fraction Zero (divided t (whole d))) e ∙ whole-rounded-divided n d (λ zero. absurd (omega (arith, h, ap unsigned_abs zero)))
 
 -- it is less than one away from the quotient
 positive_error : (n : ℤ) (k : ℕ) → unsigned_abs (int_div n (pos (suc k)) *ℤ pos (suc k) -ℤ n) < suc k

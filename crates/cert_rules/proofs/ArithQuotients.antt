@@ -127,7 +127,7 @@ division_numerators m n x y r M L E F W Q d i above h =
 
 -- ---- over fractions
 
-not_zero_case : (f : Fraction) (d : ℕ) (y : ℤ) (t : Bool) → is_zero f ≡ t → Is f d y → 1 ≤ unsigned_abs y → t ≡ false
+pub not_zero_case : (f : Fraction) (d : ℕ) (y : ℤ) (t : Bool) → is_zero f ≡ t → Is f d y → 1 ≤ unsigned_abs y → t ≡ false
 not_zero_case f d y false e i h = refl
 not_zero_case f d y true e i h = absurd (omega (arith, ap unsigned_abs (zero_out {f = f} {d = d} {x = y} e i), h))
 

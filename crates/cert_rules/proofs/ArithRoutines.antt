@@ -10,9 +10,10 @@ use Rattle.fx_fraction.proofs.WholeNumbers.{int_le_trans, int_le-sub, int_le-pos
 use Rattle.fx_core.specs.declared.quotient.Mode.TheVariants.{Zero}
 use Rattle.fx_core.specs.Rounding.{power}
 use Rattle.fx_core.specs.Values.{rounded_fraction}
-use Rattle.mfx_arith.specs.declared.operation.ArithOp.{ArithOp}
-use Rattle.mfx_arith.specs.declared.operation.ArithOp.TheVariants.{Add, Sub, AbsDiff, Abs, Mul, Div, MulDiv, MulShRight, DivShLeft, Limit, Min, Max, RateLimiter}
+use Rattle.fx_routines.specs.declared.operation.ArithOp.{ArithOp}
+use Rattle.fx_routines.specs.declared.operation.ArithOp.TheVariants.{Add, Sub, AbsDiff, Abs, Mul, Div, MulDiv, MulShRight, DivShLeft, Limit, Min, Max, RateLimiter}
 use Rattle.mfx_arith.specs.Formulas.{arith_formula}
+use Rattle.mfx_arith.proofs.WholeNumbers.{plus-whole, minus-whole, absolute-whole, times-whole, lesser-whole, greater-whole}
 use Rattle.cert_rules.specs.declared.bounds.Bounds.{Bounds}
 use Rattle.cert_rules.specs.Certificates.{IsWithin}
 use Rattle.cert_rules.specs.Ranges.{least_among, greatest_among}
@@ -20,7 +21,7 @@ use Rattle.cert_rules.specs.ArithRules.{arith_bounds, arith_values, arith_rounde
 use Rattle.cert_rules.specs.ArithSoundness.{AreWithin, KeepsRule}
 use Rattle.cert_rules.proofs.Hulls.{IsInHull}
 use Rattle.cert_rules.proofs.ArithHulls.{IsInside, in_hull, hull_of_corners, hull_of_three_corners, absolute_in_hull}
-use Rattle.cert_rules.proofs.ArithValues.{plus-whole, minus-whole, absolute-whole, abs_diff-whole, times-whole, lesser-whole, greater-whole, limit-whole, rate_limiter-whole, rounded-whole, sum_first, sum_second, difference_first, difference_second, lesser_first, lesser_second, greater_first, greater_second, limit_first, limit_second, limit_third, rate_limiter_first, rate_limiter_second, rate_limiter_third, product_first, product_second}
+use Rattle.cert_rules.proofs.ArithValues.{abs_diff-whole, limit-whole, rate_limiter-whole, rounded-whole, sum_first, sum_second, difference_first, difference_second, lesser_first, lesser_second, greater_first, greater_second, limit_first, limit_second, limit_third, rate_limiter_first, rate_limiter_second, rate_limiter_third, product_first, product_second}
 use Rattle.cert_rules.proofs.ArithProducts.{near_product, within_reach, reach_positive}
 use Rattle.cert_rules.proofs.ArithDivisors.{stays_away}
 use Rattle.cert_rules.proofs.ArithQuotients.{divides, near_shifted, near_scaled}
@@ -29,10 +30,10 @@ use Rattle.cert_rules.proofs.ArithErrors.{Near, near_wider, near_plus, near_minu
 
 -- ---- what is known of an argument
 
-inside : (b : Bounds) (m : ℤ) (e : Fraction) → IsWithin b m e → IsInside b.lo b.hi m
+pub inside : (b : Bounds) (m : ℤ) (e : Fraction) → IsWithin b m e → IsInside b.lo b.hi m
 inside b m e w = record { low = w.low; high = w.high }
 
-near : (b : Bounds) (m : ℤ) (e : Fraction) → IsWithin b m e → Near (whole m) e b.err
+pub near : (b : Bounds) (m : ℤ) (e : Fraction) → IsWithin b m e → Near (whole m) e b.err
 near b m e w = record { near = w.near }
 
 -- ---- operations that need no rounding: their value at whole numbers is a whole number
@@ -90,7 +91,7 @@ zero_case l h true true e f p q = refl
 zero_case l h false t e f p q = absurd (omega (arith, ints, e, p))
 zero_case l h true false e f p q = absurd (omega (arith, ints, f, q))
 
-zero_there : (vs : List ℤ) (i k : ℕ) → i < length vs → k < length vs → get_or vs i (pos 0) ≤ℤ pos 0 → pos 0 ≤ℤ get_or vs k (pos 0) → zero_between vs ≡ pos 0 ∷ []
+pub zero_there : (vs : List ℤ) (i k : ℕ) → i < length vs → k < length vs → get_or vs i (pos 0) ≤ℤ pos 0 → pos 0 ≤ℤ get_or vs k (pos 0) → zero_between vs ≡ pos 0 ∷ []
 zero_there vs i k p q low high = zero_case (least_among vs) (greatest_among vs) _ _ refl refl (int_le_trans _ _ _ (in_hull vs i p).low low) (int_le_trans _ _ _ high (in_hull vs k q).high)
 
 absolute_difference : ℤ → ℤ → ℤ
@@ -285,12 +286,12 @@ mul_sh_right_keeps shift given m e w =
 
 -- ---- quotients
 
-not_zero : (n : ℤ) → 1 ≤ unsigned_abs n → is_zero (whole n) ≡ false
+pub not_zero : (n : ℤ) → 1 ≤ unsigned_abs n → is_zero (whole n) ≡ false
 unfolding is_zero whole
 not_zero n h = grind (arith, nat_tests)
 
 -- the divisor in the machine
-machine_divisor : (y : Bounds) (n : ℤ) (f : Fraction) → may_be_zero y ≡ false → IsWithin y n f → 1 ≤ unsigned_abs n
+pub machine_divisor : (y : Bounds) (n : ℤ) (f : Fraction) → may_be_zero y ≡ false → IsWithin y n f → 1 ≤ unsigned_abs n
 machine_divisor y n f away w = one_sided_divisor y.lo y.hi n (stays_away y away).side (inside y n f w)
 
 pub div_keeps : (shift : ℕ) (given : ℕ → Bounds) (m : ℕ → ℤ) (e : ℕ → Fraction) → may_be_zero (given 1) ≡ false → AreWithin Div given m e → KeepsRule Div shift given m e
@@ -315,7 +316,7 @@ div_keeps shift given m e away w =
 shifted_over : (shift : ℕ) (x y : ℤ) → 1 ≤ unsigned_abs y → rounded_fraction Zero (divided (times (whole x) (whole (power shift))) (whole y)) ≡ int_div (x *ℤ power shift) y
 shifted_over shift x y some = rounded-divided _ (x *ℤ power shift) y (times-whole x (power shift)) some
 
-shifted_reach : (b : Bounds) (m : ℤ) (k : ℕ) → unsigned_abs m ≤ unsigned_abs (reach b) → unsigned_abs (m *ℤ pos k) ≤ unsigned_abs (reach b *ℤ pos k)
+pub shifted_reach : (b : Bounds) (m : ℤ) (k : ℕ) → unsigned_abs m ≤ unsigned_abs (reach b) → unsigned_abs (m *ℤ pos k) ≤ unsigned_abs (reach b *ℤ pos k)
 shifted_reach b m k h = rw (unsigned_abs-mul_pos m k, unsigned_abs-mul_pos (reach b) k) (mul-le-mul_right k h)
 
 pub div_sh_left_keeps : (shift : ℕ) (given : ℕ → Bounds) (m : ℕ → ℤ) (e : ℕ → Fraction) → may_be_zero (given 1) ≡ false → AreWithin DivShLeft given m e → KeepsRule DivShLeft shift given m e

@@ -247,10 +247,29 @@ divisor_words y least ye small away ll lh least_is err_is =
       some = rw is (omega (arith, ints, below, yl));
     }
 
+pub divisor_high : (y : Bounds) (least ye q : ℤ) → DivisorWords y least ye → least <ℤ pos (2 ^ 32) → least ≡ least_reach y → pos 0 ≤ℤ y.err → ((m n : ℕ) → word least ≤ℤ pos m → word (word (pos 65536 *ℤ word least) -ℤ word ye) ≤ℤ pos n → q ≤ℤ pos (m * n)) → FitsSigned w128 q → word q <ℤ pos (2 ^ 81)
+divisor_high y least ye q w high is positive size fits =
+    let high' : least_reach y <ℤ pos (2 ^ 32) = rw (← is) high in
+    let first : word least ≤ℤ pos (2 ^ 32) = rw w.plain (omega (arith, ints, high')) in
+    let second : word (word (pos 65536 *ℤ word least) -ℤ word ye) ≤ℤ pos (2 ^ 48) = rw w.left (omega (arith, ints, high', positive)) in
+    rw (to_z-of_z w128 q fits) (is_below q (2 ^ 32 * 2 ^ 48) (2 ^ 81) (size _ _ first second) (lit< tt))
+
 pub product_some : (a b : ℤ) → pos 1 ≤ℤ a → pos 1 ≤ℤ b → pos 1 ≤ℤ (a *ℤ b)
 product_some (pos a) (pos b) h k = int_le-pos 1 _ (mul-pos (le_of-int_le _ _ h) (le_of-int_le _ _ k))
 product_some (negsuc a) b h k = absurd h.le
 product_some (pos a) (negsuc b) h k = absurd k.le
+
+-- the product of the divisors and a power of two
+pub raised_divisors_some : (shift : ℕ) (d p : ℤ) → pos 1 ≤ℤ d → d <ℤ pos (2 ^ 81) → p ≡ power shift → unsigned_abs p ≤ 2 ^ 30 → pos 1 ≤ℤ word (word d *ℤ word p)
+raised_divisors_some shift d p low high e size =
+    let some : pos 1 ≤ℤ p = rw e (int_le-pos 1 _ (pow_pos shift)) in
+    let small : p ≤ℤ pos (2 ^ 30) = omega (arith, ints, size) in
+    let plain : word d ≡ d = omega (arith, ints, low, high) in
+    let plain' : word p ≡ p = omega (arith, ints, some, small) in
+    let product : pos 1 ≤ℤ (d *ℤ p) = product_some d p low some in
+    let limit : (d *ℤ p) ≤ℤ pos (2 ^ 81 * 2 ^ 30) = product_size d p (2 ^ 81) (2 ^ 30) (omega (arith, ints, low)) (omega (arith, ints, some)) (omega (arith, ints, high)) small in
+    let whole_word : word (d *ℤ p) ≡ d *ℤ p = word_is _ (omega (arith, ints, product)) (is_below _ _ _ limit (lit< tt)) in
+    rw (plain, plain', whole_word) product
 
 -- ---- a quotient rounded up and one count
 
@@ -286,7 +305,7 @@ above_words n d n' d' q low high one fits h k e =
       value = rw word_q (above_word q n small positive high ∙ ap (λ t. t +ℤ pos 65536) (value ∙ ap₂ least_quotient_above h k));
     }
 
-pub small_dividend : (err : ℤ) → err <ℤ pos (2 ^ 74) → err <ℤ pos (2 ^ 124)
+pub small_dividend : (err : ℤ) → err <ℤ pos (2 ^ 106) → err <ℤ pos (2 ^ 124)
 small_dividend err h = omega (arith, ints, h)
 
 pub power_some : (shift : ℕ) (p : ℤ) → p ≡ power shift → pos 1 ≤ℤ p
@@ -322,5 +341,5 @@ error_factors e s a b p al ah sl sh h k fits i =
 pub power_low : (shift : ℕ) (p : ℤ) → p ≡ power shift → pos 0 ≤ℤ p
 power_low shift p e = rw e (int_le-pos 0 _ (omega arith))
 
-pub power_high : (shift : ℕ) (p : ℤ) → p ≡ power shift → unsigned_abs p < 2 ^ 32 → p <ℤ pos (2 ^ 32)
+pub power_high : (shift : ℕ) (p : ℤ) → p ≡ power shift → unsigned_abs p ≤ 2 ^ 30 → p <ℤ pos (2 ^ 32)
 power_high shift p e h = omega (arith, ints, h)

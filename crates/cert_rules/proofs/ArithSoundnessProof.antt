@@ -1,6 +1,6 @@
 -- The rule of each operation of arithmetic that has one is sound: one lemma for each, and this is the join.
 use Rattle.std.proofs.lemmas.Bool.{false≢true}
-use Rattle.mfx_arith.specs.declared.operation.ArithOp.TheVariants.{Add, Sub, AbsDiff, Abs, Mul, Div, Mod, MulDiv, MulShRight, DivShLeft, Limit, Min, Max, RateLimiter}
+use Rattle.fx_routines.specs.declared.operation.ArithOp.TheVariants.{Add, Sub, AbsDiff, Abs, Mul, Div, Mod, MulDiv, MulShRight, DivShLeft, Limit, Min, Max, RateLimiter}
 use Rattle.cert_rules.specs.ArithSoundness.{ArithRulesAreSound}
 use Rattle.cert_rules.proofs.ArithRoutines.{add_keeps, sub_keeps, abs_diff_keeps, abs_keeps, mul_keeps, div_keeps, mul_div_keeps, mul_sh_right_keeps, div_sh_left_keeps, limit_keeps, min_keeps, max_keeps, rate_limiter_keeps}
 

@@ -1,56 +1,19 @@
 -- The formulas of arithmetic at whole numbers, by the integers' own words, and where these lie between the ends of ranges.
-use Rattle.std.specs.Prelude.{◌≡◌, Bool, true, false, cond, ℤ, pos, ◌+ℤ◌, ◌-ℤ◌, ◌*ℤ◌, ◌≤ℤ◌, unsigned_abs, int_le, int_lt, if◌then◌else◌}
+use Rattle.std.specs.Prelude.{◌≡◌, ℤ, pos, ◌+ℤ◌, ◌-ℤ◌, ◌*ℤ◌, ◌≤ℤ◌, unsigned_abs}
 use Rattle.std.specs.Int.{int_min, int_max}
-use Rattle.std.proofs.Common.{refl, ap, ap₂, ◌∙◌, arith, inl, inr}
+use Rattle.std.proofs.Common.{ap, ap₂, ◌∙◌, arith, inl, inr}
 use Rattle.std.proofs.lemmas.Int.{ints, clamps}
-use Rattle.fx_fraction.specs.Fraction.{Fraction, whole, plus, minus, times, lesser, greater, absolute}
-use Rattle.fx_fraction.proofs.WholeNumbers.{int_mul-one, int_mul_comm, int_lt_or_le, int_le_of-lt, int_le-mul, int_le-mul_reversed}
+use Rattle.fx_fraction.specs.Fraction.{Fraction, whole, plus, minus, lesser, greater, absolute}
+use Rattle.fx_fraction.proofs.WholeNumbers.{int_mul_comm, int_lt_or_le, int_le_of-lt, int_le-mul, int_le-mul_reversed}
 use Rattle.fx_core.specs.declared.quotient.Mode.TheVariants.{Zero}
 use Rattle.fx_core.specs.Values.{rounded_fraction}
-use Rattle.fx_core.proofs.RoundingLaws.{rounded_by_one}
+use Rattle.mfx_arith.proofs.WholeNumbers.{plus-whole, minus-whole, absolute-whole, lesser-whole, greater-whole, rounded-whole as whole-rounded}
 use Rattle.cert_rules.proofs.ArithHulls.{LiesBetween}
 
--- ---- the operations of fractions at whole numbers
-
-pub plus-whole : (x y : ℤ) → plus (whole x) (whole y) ≡ whole (x +ℤ y)
-unfolding plus whole
-plus-whole x y = ap whole (ap₂ (λ s t. s +ℤ t) (int_mul-one x) (int_mul-one y))
-
-pub minus-whole : (x y : ℤ) → minus (whole x) (whole y) ≡ whole (x -ℤ y)
-unfolding minus whole
-minus-whole x y = ap whole (ap₂ (λ s t. s -ℤ t) (int_mul-one x) (int_mul-one y))
-
-pub absolute-whole : (x : ℤ) → absolute (whole x) ≡ whole (pos (unsigned_abs x))
-unfolding absolute whole
-absolute-whole x = refl
+-- ---- the formulas at whole numbers
 
 pub abs_diff-whole : (x y : ℤ) → absolute (minus (whole x) (whole y)) ≡ whole (pos (unsigned_abs (x -ℤ y)))
 abs_diff-whole x y = ap absolute (minus-whole x y) ∙ absolute-whole (x -ℤ y)
-
-pub times-whole : (x y : ℤ) → times (whole x) (whole y) ≡ whole (x *ℤ y)
-unfolding times whole
-times-whole x y = refl
-
--- the lesser and the greater of two, by whichever test
-chosen : (x y : ℤ) (b c : Bool) → int_le x y ≡ b → int_lt y x ≡ c → (if b then whole x else whole y) ≡ whole (cond c y x)
-chosen x y true false e f = refl
-chosen x y false true e f = refl
-chosen x y true true e f = absurd (omega (arith, ints, e, f))
-chosen x y false false e f = absurd (omega (arith, ints, e, f))
-
-pub lesser-whole : (x y : ℤ) → lesser (whole x) (whole y) ≡ whole (int_min x y)
-unfolding lesser whole
-lesser-whole x y = ap₂ (λ s t. if int_le s t then whole x else whole y) (int_mul-one x) (int_mul-one y) ∙ chosen x y (int_le x y) (int_lt y x) refl refl
-
-chosen_other : (x y : ℤ) (b c : Bool) → int_le x y ≡ b → int_lt y x ≡ c → (if b then whole y else whole x) ≡ whole (cond c x y)
-chosen_other x y true false e f = refl
-chosen_other x y false true e f = refl
-chosen_other x y true true e f = absurd (omega (arith, ints, e, f))
-chosen_other x y false false e f = absurd (omega (arith, ints, e, f))
-
-pub greater-whole : (x y : ℤ) → greater (whole x) (whole y) ≡ whole (int_max x y)
-unfolding greater whole
-greater-whole x y = ap₂ (λ s t. if int_le s t then whole y else whole x) (int_mul-one x) (int_mul-one y) ∙ chosen_other x y (int_le x y) (int_lt y x) refl refl
 
 pub limit-whole : (x lo hi : ℤ) → lesser (whole hi) (greater (whole lo) (whole x)) ≡ whole (int_min hi (int_max lo x))
 limit-whole x lo hi = ap (lesser (whole hi)) (greater-whole lo x) ∙ lesser-whole hi (int_max lo x)
@@ -60,8 +23,7 @@ rate_limiter-whole new old d = ap₂ lesser (plus-whole old d) (ap (λ f. greate
 
 -- a whole number is its own rounding
 pub rounded-whole : (f : Fraction) (x : ℤ) → f ≡ whole x → rounded_fraction Zero f ≡ x
-unfolding whole
-rounded-whole f x e = ap (rounded_fraction Zero) e ∙ rounded_by_one Zero x
+rounded-whole f x e = ap (rounded_fraction Zero) e ∙ whole-rounded x
 
 -- ---- between the ends of ranges
 

@@ -4,18 +4,18 @@ use Rattle.std.specs.Prelude.{◌≡◌, ℕ, ℤ, List, [], ◌∷◌, pos, neg
 use Rattle.fx_core.specs.Rounding.{rounded, least_quotient_above}
 use Rattle.fx_fraction.specs.Fraction.{whole, over, plus, times, quotient, divided}
 use Rattle.fx_core.specs.declared.word_type.Ty.TheVariants.{S16, S32}
-use Rattle.mfx_arith.specs.declared.operation.ArithOp.TheVariants.{Add, Mul, Div}
-use Rattle.net_model.specs.declared.first.ScaledOp.TheVariants.{Convert}
+use Rattle.fx_routines.specs.declared.operation.ArithOp.TheVariants.{Add, Mul, Div}
+use Rattle.fx_routines.specs.declared.operation.ScaledOp.TheVariants.{Convert}
 use Rattle.net_model.specs.declared.wires.Kind.TheVariants.{Num}
 use Rattle.net_model.specs.declared.wires.Block.TheVariants.{Arith, Scaled}
 use Rattle.net_model.specs.declared.wires.Item.TheVariants.{Input, Block as OfBlock}
 use Rattle.net_model.specs.declared.wires.Wire.{Wire}
-use Rattle.net_model.specs.Formulas.{point_factor}
+use Rattle.mfx_scaled.specs.Formulas.{point_factor}
 use Rattle.cert_rules.specs.declared.bounds.Bounds.{Bounds}
 use Rattle.cert_rules.specs.Certificates.{entry_of}
-use Rattle.cert_rules.specs.Ranges.{corner_values}
-use Rattle.cert_rules.specs.ArithRules.{arith_bounds, arith_values, product_error, quotient_error}
-use Rattle.cert_rules.specs.Rules.{scaled_bounds, proposed, rule_of, is_allowed}
+use Rattle.cert_rules.specs.ArithRules.{arith_bounds, arith_values, product_error, quotient_error, shifted_error}
+use Rattle.cert_rules.specs.ScaledRules.{scaled_bounds, scaled_values}
+use Rattle.cert_rules.specs.Rules.{proposed, rule_of, is_allowed}
 use Rattle.cert_rules.specs.Acceptance.{is_sound_at, is_inductive_at, first_failing, first_rejected}
 
 wires : List Wire
@@ -33,15 +33,15 @@ entries error highest =
     record { lo = negsuc 9; hi = pos highest; err = pos 65536 } ∷ []
 
 accepted : first_rejected wires (entries 65536 1010) ≡ None
-unfolding wires entries first_rejected first_failing is_sound_at is_inductive_at rule_of is_allowed proposed scaled_bounds corner_values arith_bounds arith_values entry_of point_factor rounded least_quotient_above whole over plus times
+unfolding wires entries first_rejected first_failing is_sound_at is_inductive_at rule_of is_allowed proposed scaled_bounds scaled_values shifted_error arith_bounds arith_values entry_of point_factor rounded least_quotient_above whole over plus times
 accepted = refl
 
 error_too_small : first_rejected wires (entries 65535 1010) ≡ Some 2
-unfolding wires entries first_rejected first_failing is_sound_at is_inductive_at rule_of is_allowed proposed scaled_bounds corner_values arith_bounds arith_values entry_of point_factor rounded least_quotient_above whole over plus times
+unfolding wires entries first_rejected first_failing is_sound_at is_inductive_at rule_of is_allowed proposed scaled_bounds scaled_values shifted_error arith_bounds arith_values entry_of point_factor rounded least_quotient_above whole over plus times
 error_too_small = refl
 
 range_too_small : first_rejected wires (entries 65536 1009) ≡ Some 3
-unfolding wires entries first_rejected first_failing is_sound_at is_inductive_at rule_of is_allowed proposed scaled_bounds corner_values arith_bounds arith_values entry_of point_factor rounded least_quotient_above whole over plus times
+unfolding wires entries first_rejected first_failing is_sound_at is_inductive_at rule_of is_allowed proposed scaled_bounds scaled_values shifted_error arith_bounds arith_values entry_of point_factor rounded least_quotient_above whole over plus times
 range_too_small = refl
 
 -- a product and a quotient of `x` and `z`: a quotient is rounded, so its error is one raw count

@@ -1,8 +1,7 @@
 pub mod Examples
 pub mod ArithExamples
-pub mod Corners
+pub mod ScaledExamples
 pub mod EntryFacts
-pub mod Sizes
 pub mod Findings
 pub mod RuleFacts
 pub mod Hulls
@@ -21,7 +20,14 @@ pub mod ArithDivisorEnds
 pub mod ArithRoutines
 pub mod ArithSoundnessProof
 pub mod ArithArguments
-pub mod Routines
+pub mod ScaledSizes
+pub mod ScaledDistances
+pub mod ScaledQuotients
+pub mod ScaledRoutines
+pub mod ScaledSoundnessProof
+pub mod ScaledArguments
+pub mod ScaledCornerHulls
+pub mod ScaledCornerValues
 pub mod RuleSoundness
 pub mod UnsignedSteps
 pub mod Places

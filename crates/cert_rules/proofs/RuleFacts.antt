@@ -1,16 +1,14 @@
 -- What the functions of the rules owe: that a block's arguments have entries, that these are small, and that the
 -- computed bounds are the definition's.
-use Rattle.std.proofs.Common.{◌≡◌, ℕ, ◌<◌, Bool, true, false, cond, List, length, ℤ, pos, ◌-ℤ◌, ◌≤ℤ◌, refl, sym, ap, ap₂, ◌∙◌, subst, arith, Option, Some, None, FitsSigned, to_z, of_z, w64}
+use Rattle.std.proofs.Common.{◌≡◌, ℕ, ◌<◌, Bool, true, false, cond, List, length, ℤ, pos, ◌≤ℤ◌, refl, sym, ap, ap₂, ◌∙◌, arith, Option, Some, None, FitsSigned, to_z, of_z, w64}
 use Rattle.std.specs.Prelude.{◌≤◌, ◌^◌, ◌||◌, not, int_le, int_lt}
 use Rattle.std.proofs.lemmas.Bool.{and_from, true≢false}
 use Rattle.fx_fraction.proofs.WholeNumbers.{int_le-false, int_le-true, int_le_trans}
 use Rattle.std.proofs.lemmas.Int.{ints, to_z-of_z}
-use Rattle.fx_core.specs.declared.quotient.Mode.TheVariants.{Zero}
-use Rattle.fx_core.specs.Rounding.{shifted_rounded}
-use Rattle.mfx_arith.specs.declared.operation.Variant.{Variant}
-use Rattle.mfx_arith.specs.declared.operation.ArithOp.{ArithOp}
-use Rattle.net_model.specs.declared.first.ScaledOp.{ScaledOp}
-use Rattle.net_model.specs.declared.first.ScaledOp.TheVariants.{Convert}
+use Rattle.fx_routines.specs.declared.operation.Variant.{Variant}
+use Rattle.fx_routines.specs.declared.operation.ArithOp.{ArithOp}
+use Rattle.fx_routines.specs.declared.operation.ScaledOp.{ScaledOp}
+use Rattle.mfx_scaled.specs.declared.operation.Points.{Points}
 use Rattle.net_model.specs.declared.wires.WireNo.{WireNo}
 use Rattle.net_model.specs.declared.wires.Kind.{Kind}
 use Rattle.net_model.specs.declared.wires.Block.{Block}
@@ -19,17 +17,20 @@ use Rattle.net_model.specs.declared.wires.Item.{Item}
 use Rattle.net_model.specs.declared.wires.Item.TheVariants.{Input, Const, Block as OfBlock}
 use Rattle.net_model.specs.declared.wires.Role.TheVariants.{Value}
 use Rattle.net_model.specs.declared.wires.Wire.{Wire}
-use Rattle.net_model.specs.Wires.{NetData, wire_at, kind_least, kind_greatest, point_of, argument_of, parts_of}
+use Rattle.net_model.specs.Wires.{NetData, wire_at, kind_least, kind_greatest, argument_of, parts_of}
 use Rattle.net_model.specs.Validity.{IsValid}
+use Rattle.net_meaning.specs.Blocks.{points_of}
 use Rattle.cert_rules.specs.declared.bounds.Bounds.{Bounds}
 use Rattle.cert_rules.specs.Certificates.{entry_of}
-use Rattle.cert_rules.specs.Rules.{allowed_of, arguments_of, bounds_of, converted_error, if_allowed, is_allowed, may_fail, proposed, rule_of}
+use Rattle.cert_rules.specs.Rules.{allowed_of, arguments_of, bounds_of, if_allowed, is_allowed, may_fail, proposed, rule_of}
 use Rattle.cert_rules.specs.ArithCorners.{three}
+use Rattle.cert_rules.specs.ScaledCorners.{two}
+use Rattle.cert_rules.specs.ScaledRules.{scaled_bounds, scaled_may_divide_by_zero}
 use Rattle.cert_rules.specs.ArithRules.{arith_bounds, arith_may_divide_by_zero}
 use Rattle.cert_rules.specs.ArithSoundness.{has_rule}
 use Rattle.cert_rules.specs.Acceptance.{entry_at}
 use Rattle.cert_rules.specs.Entries.{AreSound, IsSmall, if_small, is_small}
-use Rattle.cert_rules.proofs.Corners.{converted_of, converted_is}
+use Rattle.cert_rules.proofs.ScaledArguments.{form_bounds_of_two, form_divisor_of_two, proper_form_bounds}
 use Rattle.cert_rules.proofs.ArithArguments.{bounds_of_three, divisor_of_three, proper_bounds}
 use Rattle.cert_rules.proofs.UnsignedSteps.{unsigned_step}
 use Rattle.cert_rules.proofs.AcceptanceLaws.{ruled_if_built}
@@ -61,9 +62,15 @@ arith_there net i b op v x y z sh valid h is case =
       third = omega (arith, good.earlier_z);
     }
 
-pub scaled_there : (net : NetData) (i : ℕ) (b : Block) (op : ScaledOp) (v : Variant) (x y : WireNo) → IsValid net → i < length net.wires → (wire_at net.wires i).item ≡ OfBlock b → b ≡ Scaled op v x y → x.0 < length net.wires
+-- a form has two wires
+pub record ScaledThere (net : NetData) (x y : WireNo) : Type 0 where
+  pub first : x.0 < length net.wires
+  pub second : y.0 < length net.wires
+
+pub scaled_there : (net : NetData) (i : ℕ) (b : Block) (op : ScaledOp) (v : Variant) (x y : WireNo) → IsValid net → i < length net.wires → (wire_at net.wires i).item ≡ OfBlock b → b ≡ Scaled op v x y → ScaledThere net x y
 scaled_there net i b op v x y valid h is case =
-    argument_there net i (Scaled op v x y) valid h (is ∙ ap OfBlock case) 0
+    let there = argument_there net i (Scaled op v x y) valid h (is ∙ ap OfBlock case) in
+    record { first = there 0; second = there 1 }
 
 -- a wire has an entry, and a sound one is small
 pub entry_there : (wires : List Wire) (entries : List Bounds) (w : ℕ) → length entries ≡ length (parts_of wires) → w < length wires → w < length entries
@@ -76,13 +83,6 @@ entry_small wires entries w b sound h e = rw e (small_entry wires entries sound 
 
 same_entry : (wires : List Wire) (entries : List Bounds) (w : ℕ) (b : Bounds) → w < length wires → b ≡ entry_at entries w → b ≡ entry_of wires entries w Value
 same_entry wires entries w b h e = e ∙ sym (entry_of-value wires entries w h)
-
-ordered_at : (b b' : Bounds) → b ≡ b' → IsSmall b → b'.lo ≤ℤ b'.hi
-ordered_at b b' e small = subst (λ (t : Bounds). t.lo ≤ℤ t.hi) e small.ordered
-
-by_fields : (r s : Bounds) → r.lo ≡ s.lo → r.hi ≡ s.hi → r.err ≡ s.err → r ≡ s
-by_fields r s p q t =
-    ap₂ (λ (l h : ℤ). record { lo = l; hi = h; err = r.err }) p q ∙ ap (λ (e : ℤ). record { lo = s.lo; hi = s.hi; err = e }) t
 
 -- bounds that are allowed for a part are small, where their range isn't empty and their error isn't negative
 int_le-test : (a b : ℤ) (t : Bool) → int_le a b ≡ t → a ≤ℤ b → int_le a b ≡ true
@@ -134,11 +134,25 @@ arith_returns net entries i b op v x y z sh r first second third valid sound h h
     ∙ arith_allowed kind (has_rule op) (arith_may_divide_by_zero op given) (arith_bounds op sh given) there.ruled (λ away. proper_bounds op sh given there.ruled away (unsigned_step net entries i (OfBlock (Arith op v x y z sh)) valid sound h here') (small_arguments net entries i (Arith op v x y z sh) valid sound h here'))
     ∙ ap (λ t. allowed_of kind Value (bounds_of net.wires kind (OfBlock t) known)) (sym case)
 
-pub converted_returns : (wires : List Wire) (entries : List Bounds) (kind : Kind) (b : Block) (op : ScaledOp) (v : Variant) (x y : WireNo) (r first : Bounds) (a c : ℕ) → b ≡ Scaled op v x y → x.0 < length wires → first ≡ entry_at entries x.0 → IsSmall first → a ≡ point_of (wire_at wires x.0).kind → c ≡ point_of kind → r.lo ≡ shifted_rounded Zero first.lo (pos c -ℤ pos a) → r.hi ≡ shifted_rounded Zero first.hi (pos c -ℤ pos a) → r.err ≡ converted_error a c first.err → allowed_of kind Value (Some r) ≡ allowed_of kind Value (bounds_of wires kind (OfBlock b) (λ k. entry_of wires entries k Value))
-converted_returns wires entries kind b Convert v x y r first a c case h e small old new lo hi err =
-    let e1 : first ≡ entry_of wires entries x.0 Value = same_entry wires entries x.0 first h e in
-    ap (λ n. allowed_of kind Value (Some n)) (by_fields r (converted_of a c first) lo hi err ∙ ap₂ (λ m n. converted_of m n first) old new ∙ ap (converted_of (point_of (wire_at wires x.0).kind) (point_of kind)) e1 ∙ sym (converted_is wires kind v x y (λ k. entry_of wires entries k Value) (ordered_at _ _ e1 small)))
-    ∙ ap (λ t. allowed_of kind Value (bounds_of wires kind (OfBlock t) (λ k. entry_of wires entries k Value))) (sym case)
+-- points by their fields
+pub same_points : (a b c a' b' c' : ℕ) → a ≡ a' → b ≡ b' → c ≡ c' → ◌≡◌ {A = Points} (record { a = a; b = b; c = c }) (record { a = a'; b = b'; c = c' })
+same_points a b c a' b' c' p q r = ap₂ (λ (s t : ℕ). record { a = s; b = t; c = c }) p q ∙ ap (λ (t : ℕ). record { a = a'; b = b'; c = t }) r
+
+pub scaled_returns : (net : NetData) (entries : List Bounds) (i : ℕ) (b : Block) (op : ScaledOp) (v : Variant) (x y : WireNo) (r : Option Bounds) (points : Points) (first second : Bounds) → IsValid net → AreSound net.wires entries → i < length net.wires → (wire_at net.wires i).item ≡ OfBlock b → b ≡ Scaled op v x y → points ≡ points_of net.wires (wire_at net.wires i).kind (Scaled op v x y) → first ≡ entry_at entries x.0 → second ≡ entry_at entries y.0 → r ≡ cond (scaled_may_divide_by_zero op (two first second)) None (if_small (scaled_bounds op points (two first second))) → allowed_of (wire_at net.wires i).kind Value r ≡ allowed_of (wire_at net.wires i).kind Value (bounds_of net.wires (wire_at net.wires i).kind (OfBlock b) (λ k. entry_of net.wires entries k Value))
+unfolding proposed
+scaled_returns net entries i b op v x y r points first second valid sound h here case p e f is =
+    let kind = (wire_at net.wires i).kind in
+    let known : ℕ → Bounds = λ k. entry_of net.wires entries k Value in
+    let form = Scaled op v x y in
+    let given : ℕ → Bounds = arguments_of form known in
+    let there = scaled_there net i b op v x y valid h here case in
+    let e1 : first ≡ given 0 = same_entry net.wires entries x.0 first there.first e in
+    let e2 : second ≡ given 1 = same_entry net.wires entries y.0 second there.second f in
+    let divisor : scaled_may_divide_by_zero op (two first second) ≡ scaled_may_divide_by_zero op given = rw (e1, e2) (form_divisor_of_two op given) in
+    let bounds : scaled_bounds op points (two first second) ≡ scaled_bounds op (points_of net.wires kind form) given = rw (e1, e2, p) (form_bounds_of_two op (points_of net.wires kind form) given) in
+    ap (allowed_of kind Value) (is ∙ ap₂ (λ t n. cond t None (if_small n)) divisor bounds)
+    ∙ arith_allowed kind true (scaled_may_divide_by_zero op given) (scaled_bounds op (points_of net.wires kind form) given) refl (λ away. proper_form_bounds op (points_of net.wires kind form) given away (small_arguments net entries i form valid sound h (here ∙ ap OfBlock case)))
+    ∙ ap (λ t. allowed_of kind Value (bounds_of net.wires kind (OfBlock t) known)) (sym case)
 
 -- ---- the bounds of what isn't a block
 

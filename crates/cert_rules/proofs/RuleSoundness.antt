@@ -9,11 +9,13 @@ use Rattle.fx_fraction.proofs.WholeNumbers.{int_le_refl}
 use Rattle.fx_core.specs.declared.quotient.Mode.TheVariants.{Zero}
 use Rattle.fx_core.specs.Values.{rounded_fraction, unsaturated}
 use Rattle.fx_core.proofs.TypeLaws.{saturated_to-between}
-use Rattle.mfx_arith.specs.declared.operation.ArithOp.{ArithOp}
-use Rattle.mfx_arith.specs.declared.operation.Variant.{Variant}
+use Rattle.fx_routines.specs.declared.operation.ArithOp.{ArithOp}
+use Rattle.fx_routines.specs.declared.operation.Variant.{Variant}
 use Rattle.mfx_arith.specs.Formulas.{arith_formula, quotient_of as arith_quotient}
 use Rattle.net_model.specs.declared.wires.WireNo.{WireNo}
-use Rattle.net_model.specs.declared.first.ScaledOp.TheVariants.{Convert}
+use Rattle.fx_routines.specs.declared.operation.ScaledOp.{ScaledOp}
+use Rattle.mfx_scaled.specs.declared.operation.Points.{Points}
+use Rattle.mfx_scaled.specs.Formulas.{scaled_formula, quotient_of as scaled_quotient}
 use Rattle.net_model.specs.declared.wires.Kind.{Kind}
 use Rattle.net_model.specs.declared.wires.Block.{Block}
 use Rattle.net_model.specs.declared.wires.Block.TheVariants.{Arith, Scaled}
@@ -22,16 +24,18 @@ use Rattle.net_model.specs.declared.wires.Item.TheVariants.{Input, Const, Block 
 use Rattle.net_model.specs.declared.wires.Wire.{Wire}
 use Rattle.net_model.specs.Wires.{wire_at, argument_of, input_place, kind_least, kind_greatest}
 use Rattle.net_meaning.specs.Cells.{Cell, plain}
-use Rattle.net_meaning.specs.Blocks.{formula, state_formula, quotient_of, machine, machine_state_of, machine_value_of, exact, exact_cell, state_least, state_greatest}
+use Rattle.net_meaning.specs.Blocks.{points_of, formula, state_formula, quotient_of, machine, machine_state_of, machine_value_of, exact, exact_cell, state_least, state_greatest}
 use Rattle.net_meaning.specs.Runs.{equation_of}
 use Rattle.net_meaning.specs.Promises.{KeepsRange}
 use Rattle.cert_rules.specs.declared.bounds.Bounds.{Bounds}
 use Rattle.cert_rules.specs.Certificates.{IsWithin}
 use Rattle.cert_rules.specs.ArithRules.{arith_bounds, arith_may_divide_by_zero}
 use Rattle.cert_rules.specs.ArithSoundness.{HasUnsignedStep, KeepsRule, has_rule}
+use Rattle.cert_rules.specs.ScaledRules.{scaled_bounds}
+use Rattle.cert_rules.specs.ScaledSoundness.{FormKeepsRule}
 use Rattle.cert_rules.specs.Rules.{arguments_of, proposed, block_may_fail, may_fail}
 use Rattle.cert_rules.proofs.ArithSoundnessProof.{arith_rules_are_sound}
-use Rattle.cert_rules.proofs.Routines.{convert_is_sound}
+use Rattle.cert_rules.proofs.ScaledSoundnessProof.{scaled_rules_are_sound}
 
 -- what is sound about a cell of the machine, the exact cell and the bounds of the value
 pub record IsSound (kind : Kind) (b : Bounds) (cell : Cell ℤ) (exactly : Cell Fraction) : Type 0 where
@@ -58,7 +62,7 @@ plain_is_sound kind lo hi v p q = record {
   state_high = record { le = tt };
 }
 
--- ---- blocks of Mfx arithmetic
+-- ---- blocks of Mfx arithmetic, and forms with binary points
 
 neither_fails : (ruled divides : Bool) → (not ruled || divides) ≡ false → (ruled ≡ true) × (divides ≡ false)
 neither_fails true true h = absurd (true≢false h)
@@ -70,6 +74,10 @@ pub arith_keeps : (op : ArithOp) (v : Variant) (x y z : WireNo) (sh : ℕ) (know
 arith_keeps op v x y z sh known m e ruled step given =
     let both = neither_fails (has_rule op) (arith_may_divide_by_zero op (arguments_of (Arith op v x y z sh) known)) ruled in
     arith_rules_are_sound op both.0 sh (arguments_of (Arith op v x y z sh) known) m e both.1 step (λ p _. given p)
+
+-- and so does a form with binary points
+pub form_keeps : (op : ScaledOp) (v : Variant) (x y : WireNo) (points : Points) (known : ℕ → Bounds) (m : ℕ → ℤ) (e : ℕ → Fraction) → block_may_fail (Scaled op v x y) known ≡ false → ((p : ℕ) → IsWithin (known (argument_of (Scaled op v x y) p)) (m p) (e p)) → FormKeepsRule op points (arguments_of (Scaled op v x y) known) m e
+form_keeps op v x y points known m e divides given = scaled_rules_are_sound op points (arguments_of (Scaled op v x y) known) m e divides (λ p _. given p)
 
 -- where no divisor is 0 the value before saturation is the formula rounded
 not_by_zero : (least greatest : ℤ) (q : Option (Fraction × Fraction)) (f : Fraction) → IfSome q (λ q. is_zero q.1 ≡ false) → unsaturated Zero least greatest q f ≡ rounded_fraction Zero f
@@ -96,12 +104,15 @@ block_is_sound wires kind (Arith op v x y z sh) known m e before past ruled step
       state_low = record { le = tt };
       state_high = record { le = tt };
     }
-block_is_sound wires kind (Scaled Convert v x y) known m e before past ruled step given = record {
-  value = convert_is_sound wires kind v x y known m e given;
-  kept = saturated_to-between _ _ _;
-  state_low = record { le = tt };
-  state_high = record { le = tt };
-}
+block_is_sound wires kind (Scaled op v x y) known m e before past ruled step given =
+    let points = points_of wires kind (Scaled op v x y) in
+    let keeps = form_keeps op v x y points known (λ p. m p 0) (λ p. e p 0) ruled given in
+    record {
+      value = within_at (scaled_bounds op points (arguments_of (Scaled op v x y) known)) _ _ _ (not_by_zero (kind_least kind) (kind_greatest kind) (scaled_quotient op points (λ p. whole (m p 0))) (scaled_formula op points (λ p. whole (m p 0))) keeps.machine_divides) keeps.within;
+      kept = saturated_to-between _ _ _;
+      state_low = record { le = tt };
+      state_high = record { le = tt };
+    }
 
 -- ---- wires
 

@@ -14,7 +14,7 @@ use Rattle.net_model.specs.declared.wires.Wire.{Wire}
 use Rattle.net_model.specs.Validity.{IsValid}
 use Rattle.net_model.specs.Wires.{NetData, wire_at, input_place, argument_of}
 use Rattle.net_meaning.specs.Cells.{Cell, Meaning, cell_at}
-use Rattle.net_meaning.specs.Blocks.{machine, exact, quotient_of}
+use Rattle.net_meaning.specs.Blocks.{machine, exact, points_of, quotient_of}
 use Rattle.net_meaning.specs.Runs.{equation, IsRun}
 use Rattle.net_meaning.specs.Promises.{KeepsRange, Keeps, DividesWell, FitsAt}
 use Rattle.net_meaning.proofs.Arguments.{ArgumentsEarlier, IsOrdered, arguments_earlier}
@@ -24,7 +24,7 @@ use Rattle.cert_rules.specs.Certificates.{IsWithin, entry_of, held_by}
 use Rattle.cert_rules.specs.Rules.{may_fail}
 use Rattle.cert_rules.specs.Acceptance.{Accepts}
 use Rattle.cert_rules.specs.Theorem.{CertificatesHold}
-use Rattle.cert_rules.proofs.RuleSoundness.{IsSound, ArgumentsWithin, ItemHasUnsignedStep, arith_keeps, rule_is_sound}
+use Rattle.cert_rules.proofs.RuleSoundness.{IsSound, ArgumentsWithin, ItemHasUnsignedStep, arith_keeps, form_keeps, rule_is_sound}
 use Rattle.cert_rules.proofs.UnsignedSteps.{unsigned_step}
 use Rattle.cert_rules.proofs.AcceptedEntries.{within_wider, proposal, EntryHolds, entry_holds}
 
@@ -39,7 +39,10 @@ divides_well wires w (OfBlock (Arith op v x y z sh)) known m e h step given =
     let b = Arith op v x y z sh in
     let keeps = arith_keeps op v x y z sh known (λ p. (m 0 (argument_of b p)).value) (λ p. (e 0 (argument_of b p)).value) h step given in
     (keeps.machine_divides, keeps.exact_divides)
-divides_well wires w (OfBlock (Scaled op v x y)) known m e h step given = (tt, tt)
+divides_well wires w (OfBlock (Scaled op v x y)) known m e h step given =
+    let b = Scaled op v x y in
+    let keeps = form_keeps op v x y (points_of wires w.kind b) known (λ p. (m 0 (argument_of b p)).value) (λ p. (e 0 (argument_of b p)).value) h given in
+    (keeps.machine_divides, keeps.exact_divides)
 
 -- the value of wire k is within its entry
 abbrev IsHeld : List Wire → List Bounds → (ℕ → ℕ → Cell ℤ) → (ℕ → ℕ → Cell Fraction) → ℕ → Type 0

@@ -4,9 +4,9 @@ use Rattle.std.proofs.Common.{refl, ap, ◌∙◌, subst, arith}
 use Rattle.fx_core.specs.declared.word_type.Ty.{Ty}
 use Rattle.fx_core.specs.declared.word_type.Ty.TheVariants.{U8, S8, U16, S16, U32, S32}
 use Rattle.fx_core.specs.Types.{least_of}
-use Rattle.mfx_arith.specs.declared.operation.ArithOp.{ArithOp}
-use Rattle.mfx_arith.specs.declared.operation.ArithOp.TheVariants.{RateLimiter}
-use Rattle.mfx_arith.specs.declared.operation.Variant.{Variant}
+use Rattle.fx_routines.specs.declared.operation.ArithOp.{ArithOp}
+use Rattle.fx_routines.specs.declared.operation.ArithOp.TheVariants.{RateLimiter}
+use Rattle.fx_routines.specs.declared.operation.Variant.{Variant}
 use Rattle.mfx_arith.specs.Operations.{unsigned_of}
 use Rattle.net_model.specs.declared.wires.WireNo.{WireNo}
 use Rattle.net_model.specs.declared.wires.Block.TheVariants.{Arith, Scaled}

@@ -1,33 +1,16 @@
 -- When a certificate is accepted, and which part fails first where it isn't.
 use Rattle.std.specs.Prelude.{◌≡◌, ℕ, zero, suc, ◌<◌, Bool, true, false, ◌&&◌, List, length, get_or, ℤ, pos, int_le, IsTrue, Option, Some, None, if◌then◌else◌}
-use Rattle.mfx_arith.specs.declared.operation.ArithOp.TheVariants.{Mod}
 use Rattle.net_model.specs.declared.wires.Item.{Item}
 use Rattle.net_model.specs.declared.wires.Item.TheVariants.{Input, Const, Block as OfBlock}
-use Rattle.net_model.specs.declared.wires.Block.{Block}
-use Rattle.net_model.specs.declared.wires.Block.TheVariants.{Arith, Scaled}
 use Rattle.net_model.specs.declared.wires.Role.{Role}
 use Rattle.net_model.specs.declared.wires.Role.TheVariants.{Value}
 use Rattle.net_model.specs.declared.wires.Part.{Part}
 use Rattle.net_model.specs.declared.wires.Wire.{Wire}
 use Rattle.net_model.specs.Wires.{wire_at, parts_of, no_part}
+use Rattle.net_model.specs.Smooth.{IsSmooth}
 use Rattle.cert_rules.specs.declared.bounds.Bounds.{Bounds}
 use Rattle.cert_rules.specs.Certificates.{no_bounds, entry_of}
 use Rattle.cert_rules.specs.Rules.{is_allowed, rule_of}
-
--- a block is smooth: it doesn't switch, look up, or take a remainder or bits
-abbrev pub is_smooth_block : Block → Bool
-is_smooth_block (Arith Mod v x y z sh) = false
-is_smooth_block (Arith other v x y z sh) = true
-is_smooth_block (Scaled op v x y) = true
-
-abbrev pub is_smooth : Item → Bool
-is_smooth (Input lo hi) = true
-is_smooth (Const value) = true
-is_smooth (OfBlock b) = is_smooth_block b
-
--- a network is smooth where each block is
-abbrev pub IsSmooth : List Wire → Type 0
-IsSmooth wires = (i : ℕ) → i < length wires → IsTrue (is_smooth (wire_at wires i).item)
 
 -- an entry is allowed for a part, its range isn't empty and its error isn't negative
 abbrev pub is_sound_entry : List Wire → Part → Bounds → Bool
@@ -53,16 +36,19 @@ lies_inside (Some r) entry = int_le entry.lo r.lo && int_le r.hi entry.hi && int
 abbrev pub is_inductive_entry : List Wire → List Bounds → Part → Bounds → Bool
 is_inductive_entry wires entries part b = starts_inside (start_of (wire_at wires part.wire.0).item part.role) b && lies_inside (rule_of wires part.wire.0 part.role (entry_of wires entries)) b
 
+-- part number k of a network, from 0
 abbrev pub part_at : List Wire → ℕ → Part
 part_at wires k = get_or (parts_of wires) k no_part
 
+-- the entry of part number k
 abbrev pub entry_at : List Bounds → ℕ → Bounds
 entry_at entries k = get_or entries k no_bounds
 
--- the two tests of part number k
+-- the first test of part number k: its entry is sound
 unfoldable pub is_sound_at : List Wire → List Bounds → ℕ → Bool
 is_sound_at wires entries k = is_sound_entry wires (part_at wires k) (entry_at entries k)
 
+-- the second test of part number k: its entry is inductive
 unfoldable pub is_inductive_at : List Wire → List Bounds → ℕ → Bool
 is_inductive_at wires entries k = is_inductive_entry wires entries (part_at wires k) (entry_at entries k)
 

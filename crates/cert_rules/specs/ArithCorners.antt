@@ -1,8 +1,8 @@
 -- What the functions of the rules of arithmetic read: three numbers, and three bounds, as an operation's arguments.
 use Rattle.std.specs.Prelude.{ℕ, zero, suc, ◌≤◌, ℤ, unsigned_abs}
 use Rattle.std.specs.Int.{int_min, int_max}
-use Rattle.mfx_arith.specs.declared.operation.ArithOp.{ArithOp}
-use Rattle.mfx_arith.specs.declared.operation.ArithOp.TheVariants.{Div, MulDiv, DivShLeft}
+use Rattle.fx_routines.specs.declared.operation.ArithOp.{ArithOp}
+use Rattle.fx_routines.specs.declared.operation.ArithOp.TheVariants.{Div, MulDiv, DivShLeft}
 use Rattle.cert_rules.specs.declared.bounds.Bounds.{Bounds}
 use Rattle.cert_rules.specs.ArithRules.{arith_rounded}
 
@@ -30,22 +30,27 @@ HasDivisorsAtEnds DivShLeft y z = (1 ≤ unsigned_abs y.lo) × (1 ≤ unsigned_a
 HasDivisorsAtEnds MulDiv y z = (1 ≤ unsigned_abs z.lo) × (1 ≤ unsigned_abs z.hi)
 HasDivisorsAtEnds other y z = Unit {0}
 
--- the least and the greatest of an operation's values over the ends of its third argument's range, of its second's and of
--- its first's; an end of what the operation doesn't have changes nothing
+-- the least of an operation's values over the ends of its third argument's range; an end of what the operation doesn't
+-- have changes nothing, here and below
 unfoldable pub least_over_third : ArithOp → ℕ → ℤ → ℤ → Bounds → ℤ
 least_over_third op shift x y z = int_min (corner_value op shift x y z.lo) (corner_value op shift x y z.hi)
 
+-- the greatest of them
 unfoldable pub greatest_over_third : ArithOp → ℕ → ℤ → ℤ → Bounds → ℤ
 greatest_over_third op shift x y z = int_max (corner_value op shift x y z.lo) (corner_value op shift x y z.hi)
 
+-- the least over the ends of its second argument's range too
 unfoldable pub least_over_second : ArithOp → ℕ → ℤ → Bounds → Bounds → ℤ
 least_over_second op shift x y z = int_min (least_over_third op shift x y.lo z) (least_over_third op shift x y.hi z)
 
+-- the greatest over them
 unfoldable pub greatest_over_second : ArithOp → ℕ → ℤ → Bounds → Bounds → ℤ
 greatest_over_second op shift x y z = int_max (greatest_over_third op shift x y.lo z) (greatest_over_third op shift x y.hi z)
 
+-- the least over the ends of all its arguments' ranges
 unfoldable pub least_at_corners : ArithOp → ℕ → Bounds → Bounds → Bounds → ℤ
 least_at_corners op shift x y z = int_min (least_over_second op shift x.lo y z) (least_over_second op shift x.hi y z)
 
+-- the greatest over them
 unfoldable pub greatest_at_corners : ArithOp → ℕ → Bounds → Bounds → Bounds → ℤ
 greatest_at_corners op shift x y z = int_max (greatest_over_second op shift x.lo y z) (greatest_over_second op shift x.hi y z)

@@ -6,8 +6,8 @@ use Rattle.fx_fraction.specs.Fraction.{whole}
 use Rattle.fx_core.specs.declared.quotient.Mode.TheVariants.{Zero}
 use Rattle.fx_core.specs.Rounding.{least_quotient_above, power}
 use Rattle.fx_core.specs.Values.{rounded_fraction}
-use Rattle.mfx_arith.specs.declared.operation.ArithOp.{ArithOp}
-use Rattle.mfx_arith.specs.declared.operation.ArithOp.TheVariants.{Add, Sub, AbsDiff, Abs, Mul, Div, Mod, MulDiv, MulShRight, DivShLeft, Limit, Min, Max, RateLimiter}
+use Rattle.fx_routines.specs.declared.operation.ArithOp.{ArithOp}
+use Rattle.fx_routines.specs.declared.operation.ArithOp.TheVariants.{Add, Sub, AbsDiff, Abs, Mul, Div, Mod, MulDiv, MulShRight, DivShLeft, Limit, Min, Max, RateLimiter}
 use Rattle.mfx_arith.specs.Formulas.{arith_formula}
 use Rattle.cert_rules.specs.declared.bounds.Bounds.{Bounds}
 use Rattle.cert_rules.specs.Ranges.{given_bounds, corners_of, least_among, greatest_among}

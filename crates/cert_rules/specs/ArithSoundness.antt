@@ -1,8 +1,8 @@
 -- What the rules of arithmetic promise of one operation.
 use Rattle.std.specs.Prelude.{◌≡◌, ℕ, ◌<◌, Bool, true, false, ℤ, pos, ◌≤ℤ◌, IfSome, IsTrue}
 use Rattle.fx_fraction.specs.Fraction.{Fraction, whole, is_zero}
-use Rattle.mfx_arith.specs.declared.operation.ArithOp.{ArithOp}
-use Rattle.mfx_arith.specs.declared.operation.ArithOp.TheVariants.{Mod, RateLimiter}
+use Rattle.fx_routines.specs.declared.operation.ArithOp.{ArithOp}
+use Rattle.fx_routines.specs.declared.operation.ArithOp.TheVariants.{Mod, RateLimiter}
 use Rattle.mfx_arith.specs.Formulas.{arith_formula, quotient_of}
 use Rattle.cert_rules.specs.declared.bounds.Bounds.{Bounds}
 use Rattle.cert_rules.specs.Certificates.{IsWithin}

@@ -1,9 +1,5 @@
 -- The rule of each part: the bounds that it gets from the bounds of others.
-use Rattle.std.specs.Prelude.{ℕ, ◌-◌, ◌^◌, Bool, false, not, ◌&&◌, ◌||◌, List, ℤ, pos, ◌+ℤ◌, ◌*ℤ◌, int_le, int_lt, nat_le, Option, Some, None, if◌then◌else◌}
-use Rattle.fx_core.specs.Rounding.{least_quotient_above, power}
-use Rattle.net_model.specs.declared.first.ScaledOp.{ScaledOp}
-use Rattle.net_model.specs.declared.first.ScaledOp.TheVariants.{Convert}
-use Rattle.net_model.specs.declared.first.Points.{Points}
+use Rattle.std.specs.Prelude.{ℕ, ◌^◌, Bool, false, not, ◌&&◌, ◌||◌, List, ℤ, pos, int_le, int_lt, Option, Some, None, if◌then◌else◌}
 use Rattle.net_model.specs.declared.wires.Kind.{Kind}
 use Rattle.net_model.specs.declared.wires.Block.{Block}
 use Rattle.net_model.specs.declared.wires.Block.TheVariants.{Arith, Scaled}
@@ -15,39 +11,23 @@ use Rattle.net_model.specs.declared.wires.Wire.{Wire}
 use Rattle.net_model.specs.Wires.{wire_at, kind_least, kind_greatest, argument_of}
 use Rattle.net_meaning.specs.Blocks.{points_of}
 use Rattle.cert_rules.specs.declared.bounds.Bounds.{Bounds}
-use Rattle.cert_rules.specs.Units.{one_count}
-use Rattle.cert_rules.specs.Ranges.{corner_values, least_among, greatest_among}
 use Rattle.cert_rules.specs.ArithRules.{arith_may_divide_by_zero, arith_bounds}
 use Rattle.cert_rules.specs.ArithSoundness.{has_rule}
-
--- the error through a change of the binary point from a to c: multiplied by the factor, and where digits are dropped
--- rounded up and with one rounding more
-abbrev pub converted_error : ℕ → ℕ → ℤ → ℤ
-converted_error a c err = if nat_le a c then err *ℤ power (c - a) else least_quotient_above err (power (a - c)) +ℤ one_count
-
--- the error of a form with binary points
-abbrev pub scaled_error : ScaledOp → Points → (ℕ → Bounds) → ℤ
-scaled_error Convert points given = converted_error points.a points.c (given 0).err
-
--- the bounds of the value of a form with binary points, from those of its arguments
-unfoldable pub scaled_bounds : ScaledOp → Points → (ℕ → Bounds) → Bounds
-scaled_bounds op points given = record {
-  lo = least_among (corner_values op points given);
-  hi = greatest_among (corner_values op points given);
-  err = scaled_error op points given;
-}
+use Rattle.cert_rules.specs.ScaledRules.{scaled_may_divide_by_zero, scaled_bounds}
 
 -- the bounds of a block's arguments, by their number, where `known` has those of each wire
 abbrev pub arguments_of : Block → (ℕ → Bounds) → ℕ → Bounds
 arguments_of b known p = known (argument_of b p)
 
--- the ends of a part, and the number that its error has to be below
+-- the least value of a part
 abbrev pub part_least : Kind → Role → ℤ
 part_least kind Value = kind_least kind
 
+-- the greatest value of a part
 abbrev pub part_greatest : Kind → Role → ℤ
 part_greatest kind Value = kind_greatest kind
 
+-- the number that the error of a part has to be below
 abbrev pub error_cap : Role → ℤ
 error_cap Value = pos (2 ^ 40)
 
@@ -58,7 +38,7 @@ is_allowed kind role b = int_le (part_least kind role) b.lo && int_le b.hi (part
 -- whether a block's value gets no bounds: its operation has no rule, or its divisor may be 0
 abbrev pub block_may_fail : Block → (ℕ → Bounds) → Bool
 block_may_fail (Arith op v x y z sh) known = not (has_rule op) || arith_may_divide_by_zero op (arguments_of (Arith op v x y z sh) known)
-block_may_fail (Scaled op v x y) known = false
+block_may_fail (Scaled op v x y) known = scaled_may_divide_by_zero op (arguments_of (Scaled op v x y) known)
 
 -- the same of a wire's value
 abbrev pub may_fail : Item → (ℕ → Bounds) → Bool

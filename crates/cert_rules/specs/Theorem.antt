@@ -3,6 +3,7 @@ use Rattle.std.specs.Prelude.{◌≡◌, ◌↔◌, List, length, ℤ, None}
 use Rattle.fx_fraction.specs.Fraction.{Fraction}
 use Rattle.net_model.specs.Wires.{NetData, parts_of}
 use Rattle.net_model.specs.Validity.{IsValid}
+use Rattle.net_model.specs.Smooth.{IsSmooth}
 use Rattle.net_model.specs.declared.wires.Wire.{Wire}
 use Rattle.net_meaning.specs.Cells.{Cell}
 use Rattle.net_meaning.specs.Blocks.{machine, exact}
@@ -10,7 +11,7 @@ use Rattle.net_meaning.specs.Runs.{IsRun}
 use Rattle.net_meaning.specs.Promises.{Keeps, Fits}
 use Rattle.cert_rules.specs.declared.bounds.Bounds.{Bounds}
 use Rattle.cert_rules.specs.Certificates.{Within}
-use Rattle.cert_rules.specs.Acceptance.{IsSmooth, Accepts, first_rejected}
+use Rattle.cert_rules.specs.Acceptance.{Accepts, first_rejected}
 
 -- an accepted certificate of a valid network holds over every recording that keeps to the declared ranges: the
 -- machine doesn't saturate, no divisor is 0, and each value of the machine lies in its range and is as near to the

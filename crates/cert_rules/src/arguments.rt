@@ -6,7 +6,7 @@ ghost use Rattle.cert_rules.specs.Arguments.{RulesReadTheirArguments, arity_of, 
 
 use crate::lookups::{item_at, part_numbered};
 use mfx_arith::ArithOp;
-use net_model::first::ScaledOp;
+use mfx_scaled::ScaledOp;
 use net_model::{Block, Item, Network, Part, PartNo, Role, WireNo};
 
 /// The part of number `i`, from 0, among those whose bounds a part's rule reads, in the order of the network
@@ -79,8 +79,11 @@ fn has_argument(block: Block, wire: WireNo) -> bool
             | ArithOp::Min
             | ArithOp::Max => x.0 == wire.0 || y.0 == wire.0,
         },
-        Block::Scaled { op, x, .. } => match op {
+        Block::Scaled { op, x, y, .. } => match op {
             ScaledOp::Convert => x.0 == wire.0,
+            ScaledOp::Add | ScaledOp::Sub | ScaledOp::AbsDiff | ScaledOp::Mul | ScaledOp::Div => x.0
+                == wire.0
+                || y.0 == wire.0,
         },
     }
 }

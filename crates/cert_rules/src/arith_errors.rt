@@ -8,6 +8,7 @@ ghost use Rattle.cert_rules.specs.ArithCorners.{three};
 ghost use Rattle.cert_rules.specs.ArithSoundness.{has_rule};
 ghost use Rattle.fx_core.specs.Rounding.{power};
 ghost use Rattle.cert_rules.specs.ArithRules.{arith_error, arith_may_divide_by_zero, holds_zero, least_reach, may_be_zero, product_error, quotient_error, reach, shifted_error};
+ghost use Rattle.cert_rules.specs.ScaledRules.{raised_quotient_error};
 ghost use Rattle.cert_rules.specs.Entries.{IsSmall};
 
 use crate::arith_values::{greater, lesser, power_of_two};
@@ -123,9 +124,9 @@ pub(crate) fn product_error(x: Bounds, y: Bounds) -> i128
 /// The error of what is divided by two to a power. By 1 nothing is rounded.
 #[tactic(auto, unfolding(crate::specs::ArithRules::shifted_error))]
 pub(crate) fn shifted_error(shift: u8, err: i128) -> i128
-    requires shift { shift ≤ 15 }
+    requires shift { shift ≤ 30 }
     requires low { pos 0 ≤ℤ err }
-    requires high { err <ℤ pos (2 ^ 74) }
+    requires high { err <ℤ pos (2 ^ 106) }
     ensures { result ≡ shifted_error shift err }
 {
     if shift == 0 {
@@ -149,6 +150,21 @@ pub(crate) fn quotient_error(top: i128, err: i128, y: Bounds) -> i128
     ceil_div(moves(top, err, y), divisors(y)) + ONE_COUNT
 }
 
+/// The same of a quotient whose divisor is multiplied by two to the power of `shift`.
+#[tactic(auto, unfolding(crate::specs::ScaledRules::raised_quotient_error))]
+pub(crate) fn raised_quotient_error(shift: u8, top: i128, err: i128, y: Bounds) -> i128
+    requires shift { shift ≤ 15 }
+    requires top_low { pos 0 ≤ℤ top }
+    requires top_high { top <ℤ pos (2 ^ 64) }
+    requires low { pos 0 ≤ℤ err }
+    requires high { err <ℤ pos (2 ^ 74) }
+    requires divisor { IsSmall y }
+    requires nonzero { may_be_zero y ≡ false }
+    ensures { result ≡ raised_quotient_error shift top err y }
+{
+    ceil_div(moves(top, err, y), raised_divisors(shift, y)) + ONE_COUNT
+}
+
 // How far the cross products of a quotient are apart, in the units of errors.
 fn moves(top: i128, err: i128, y: Bounds) -> i128
     requires top_low { pos 0 ≤ℤ top }
@@ -170,9 +186,21 @@ fn divisors(y: Bounds) -> i128
     requires nonzero { may_be_zero y ≡ false }
     ensures value { result ≡ least_reach y *ℤ (pos 65536 *ℤ least_reach y -ℤ y.err) }
     ensures low { pos 1 ≤ℤ result }
+    ensures high { result <ℤ pos (2 ^ 81) }
 {
     let least = least_reach(y);
     product(least, ONE_COUNT * least - i128::from(y.err))
+}
+
+// The same where the divisor is multiplied by two to the power of `shift`.
+fn raised_divisors(shift: u8, y: Bounds) -> i128
+    requires shift { shift ≤ 15 }
+    requires small { IsSmall y }
+    requires nonzero { may_be_zero y ≡ false }
+    ensures value { result ≡ least_reach y *ℤ (pos 65536 *ℤ least_reach y -ℤ y.err) *ℤ power shift }
+    ensures low { pos 1 ≤ℤ result }
+{
+    divisors(y) * power_of_two(shift)
 }
 
 // The error of a quotient whose dividend is shifted to the left.

@@ -22,7 +22,7 @@ pub(crate) struct Range {
 
 impl Range {
     /// One number.
-    fn at(number: i128) -> Range
+    pub(crate) fn at(number: i128) -> Range
         ensures lo { result.lo ≡ number }
         ensures hi { result.hi ≡ number }
     {
@@ -33,7 +33,7 @@ impl Range {
     }
 
     /// The hull of both ranges.
-    fn joined(self, other: Range) -> Range
+    pub(crate) fn joined(self, other: Range) -> Range
         ensures lo { result.lo ≡ int_min self.lo other.lo }
         ensures hi { result.hi ≡ int_max self.hi other.hi }
     {
@@ -45,7 +45,7 @@ impl Range {
 
     /// The range of an absolute value from that at the corners: joined with 0 where what stands
     /// inside takes 0 or both signs there.
-    fn turned(self, inside: Range) -> Range
+    pub(crate) fn turned(self, inside: Range) -> Range
         ensures lo { result.lo ≡ (if int_le inside.lo (pos 0) && int_le (pos 0) inside.hi then int_min self.lo (pos 0) else self.lo) }
         ensures hi { result.hi ≡ (if int_le inside.lo (pos 0) && int_le (pos 0) inside.hi then int_max self.hi (pos 0) else self.hi) }
     {

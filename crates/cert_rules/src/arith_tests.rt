@@ -6,7 +6,7 @@ use crate::arith_ruling::{WideBounds, arith_bounds};
 use mfx_arith::ArithOp;
 use std::test::Fail;
 
-fn bounds(lo: i64, hi: i64, err: i64) -> Bounds
+pub(crate) fn bounds(lo: i64, hi: i64, err: i64) -> Bounds
     requires low { negsuc 2147483647 ≤ℤ lo }
     requires ordered { lo ≤ℤ hi }
     requires high { hi ≤ℤ pos 4294967295 }
@@ -17,7 +17,7 @@ fn bounds(lo: i64, hi: i64, err: i64) -> Bounds
     Bounds { lo, hi, err }
 }
 
-fn wide(lo: i128, hi: i128, err: i128) -> WideBounds {
+pub(crate) fn wide(lo: i128, hi: i128, err: i128) -> WideBounds {
     WideBounds { lo, hi, err }
 }
 

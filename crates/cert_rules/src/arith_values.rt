@@ -59,10 +59,11 @@ fn quotient(n: i128, d: i128) -> i128
 }
 
 /// Two to the power of a shift.
+#[tactic(auto, using(crate::proofs::ScaledSizes::power_small))]
 pub(crate) fn power_of_two(shift: u8) -> i128
-    requires { shift ≤ 15 }
+    requires { shift ≤ 30 }
     ensures value { result ≡ power shift }
-    ensures size { unsigned_abs result < 2 ^ 32 }
+    ensures size { unsigned_abs result ≤ 2 ^ 30 }
     ensures nonzero { 1 ≤ unsigned_abs result }
 {
     i128::from(1_u32 << shift)

@@ -22,7 +22,14 @@ mod lookups;
 mod narrowing;
 mod promise;
 mod ruling;
-mod steps;
+mod scaled_counts;
+mod scaled_errors;
+mod scaled_laws;
+mod scaled_ranges;
+mod scaled_ruling;
+#[cfg(test)]
+mod scaled_tests;
+mod scaled_values;
 #[cfg(test)]
 mod tests;
 
@@ -34,3 +41,4 @@ pub use checking::rejected_part;
 pub use limits::allowed;
 pub use promise::{acceptance_is_exact, certificates_hold};
 pub use ruling::rule;
+pub use scaled_laws::law_of_scaled_rules;

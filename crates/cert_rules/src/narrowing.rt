@@ -1,4 +1,4 @@
-// The bounds of an operation of arithmetic as bounds of a part.
+// The bounds of an operation of arithmetic, and of a form with binary points, as bounds of a part.
 
 ghost use Rattle.std.specs.Prelude.{◌≡◌, ◌≤◌, IsTrue, None, if◌then◌else◌};
 ghost use Rattle.cert_rules.specs.ArithCorners.{three};
@@ -6,10 +6,14 @@ ghost use Rattle.cert_rules.specs.ArithRules.{arith_bounds, arith_may_divide_by_
 ghost use Rattle.cert_rules.specs.ArithSoundness.{has_rule};
 ghost use Rattle.cert_rules.specs.ArithWide.{exact_bounds};
 ghost use Rattle.cert_rules.specs.Entries.{IsSmall, if_small};
+ghost use Rattle.cert_rules.specs.ScaledCorners.{AreLow, two};
+ghost use Rattle.cert_rules.specs.ScaledRules.{scaled_bounds, scaled_may_divide_by_zero};
 
 use crate::arith_ruling::{WideBounds, arith_bounds};
 use crate::bounds::Bounds;
+use crate::scaled_ruling::scaled_bounds;
 use mfx_arith::ArithOp;
+use mfx_scaled::{Points, ScaledOp};
 
 /// The least and the greatest number of all types, and what every error has to be below.
 const LEAST: i128 = -(1 << 31);
@@ -35,6 +39,18 @@ pub(crate) fn operation_bounds(
         ≡ (if arith_may_divide_by_zero op (three x y z) then None else if_small (arith_bounds op shift (three x y z))) }
 {
     let wide = arith_bounds(op, shift, x, y, z)?;
+    narrowed(wide)
+}
+
+/// The bounds of a form's value: None where its divisor may be 0, or where no part may have them.
+pub(crate) fn form_bounds(op: ScaledOp, p: Points, x: Bounds, y: Bounds) -> Option<Bounds>
+    requires points { AreLow p }
+    requires first { IsSmall x }
+    requires second { IsSmall y }
+    ensures { result
+        ≡ (if scaled_may_divide_by_zero op (two x y) then None else if_small (scaled_bounds op p (two x y))) }
+{
+    let wide = scaled_bounds(op, p, x, y)?;
     narrowed(wide)
 }
 

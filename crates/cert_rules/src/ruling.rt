@@ -11,9 +11,8 @@ ghost use Rattle.cert_rules.specs.Entries.{AreSound};
 use crate::bounds::Bounds;
 use crate::limits::is_within_limits;
 use crate::lookups::{item_at, kind_at, part_numbered, point_at, value_entry};
-use crate::narrowing::operation_bounds;
-use crate::steps::converted_bounds;
-use net_model::first::ScaledOp;
+use crate::narrowing::{form_bounds, operation_bounds};
+use mfx_scaled::Points;
 use net_model::{Block, Item, Network, PartNo, Role, WireNo};
 
 /// The bounds of a part by its rule, from an entry for each part: None where its block has no rule, or
@@ -94,13 +93,15 @@ fn block_bounds(net: &Network, wire: WireNo, block: Block, all: &[Bounds]) -> Op
             let third = value_entry(all, z);
             operation_bounds(op, sh, first, second, third)
         }
-        Block::Scaled { op, x, .. } => {
+        Block::Scaled { op, x, y, .. } => {
+            let points = Points {
+                a: point_at(net, x),
+                b: point_at(net, y),
+                c: point_at(net, wire),
+            };
             let first = value_entry(all, x);
-            match op {
-                ScaledOp::Convert => {
-                    Some(converted_bounds(first, point_at(net, x), point_at(net, wire)))
-                }
-            }
+            let second = value_entry(all, y);
+            form_bounds(op, points, first, second)
         }
     }
 }

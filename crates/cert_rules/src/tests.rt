@@ -1,10 +1,8 @@
 use crate::{Bounds, rejected_part};
 use fx_core::Ty;
 use mfx_arith::{ArithOp, Variant};
-use net_model::first::ScaledOp;
-use net_model::{
-    Block, Draft, Item, Kind, Name, NameFault, Network, PartNo, Wire, WireNo, read_network,
-};
+use mfx_scaled::ScaledOp;
+use net_model::{Block, Draft, Item, Kind, Name, NameFault, Network, PartNo, Wire, WireNo};
 use std::alloc::Global;
 use std::test::Fail;
 
@@ -68,12 +66,39 @@ fn accepts_and_rejects(rt: HostRuntime) -> Result<(), Fail> {
     Ok(())
 }
 
+// A block of an operation whose third argument, which it doesn't have, repeats the first.
+pub(crate) fn arith(op: ArithOp, x: WireNo, y: WireNo) -> Item {
+    Item::Block(Block::Arith {
+        op,
+        v: SAME,
+        x,
+        y,
+        z: x,
+        sh: 0,
+    })
+}
+
+// Two inputs, -3 to 5 and 2 to 4, and blocks behind them; the last wire is the output.
+pub(crate) fn network(alloc: Global, blocks: &[Item]) -> Result<Network, Fail> {
+    let mut wires = Vec::new(alloc);
+    wires.push(wire(alloc, b"x", 0, Item::Input { lo: -3, hi: 5 })?)?;
+    wires.push(wire(alloc, b"z", 0, Item::Input { lo: 2, hi: 4 })?)?;
+    let names: [&[u8]; 3] = [b"p", b"q", b"r"];
+    for (name, block) in names.into_iter().zip(blocks) {
+        wires.push(wire(alloc, name, 0, *block)?)?;
+    }
+    let outs = vec![in alloc; WireNo(0)]?;
+    Ok(Network::new(alloc, Draft { wires, outs })?)
+}
+
 // A quotient is rounded, so its error is one raw count at least.
 #[test]
 fn accepts_and_rejects_a_quotient(rt: HostRuntime) -> Result<(), Fail> {
-    let text =
-        b"net 1\nin x s16 -3 5\nin z s16 2 4\nwire p s32 = Mfx_Mul_s16s16_s32 x z\nwire q s16 = Mfx_Div_s16s16_s16 x z\nout p\nout q\n";
-    let net = read_network(rt.alloc(), text)?;
+    let blocks = [
+        arith(ArithOp::Mul, WireNo(0), WireNo(1)),
+        arith(ArithOp::Div, WireNo(0), WireNo(1)),
+    ];
+    let net = network(rt.alloc(), &blocks)?;
     assert_eq!(rt; net.parts().len(), 4);
     let mut entries = [
         bounds(-3, 5, 0),

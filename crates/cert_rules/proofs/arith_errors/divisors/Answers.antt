@@ -1,7 +1,7 @@
 use Rattle.std.proofs.Common.{rules, ◌∙◌, ap₂, arith, ◌*ℤ◌}
 use Rattle.std.specs.Int.{w128}
 use Rattle.std.proofs.lemmas.Int.{ints, to_z-of_z}
-use Rattle.cert_rules.proofs.ArithSizes.{DivisorWords, divisor_words, product_some}
+use Rattle.cert_rules.proofs.ArithSizes.{DivisorWords, divisor_high, divisor_words, product_some}
 use Rattle.cert_rules.proofs.arith_errors.divisors.Goals as goal
 
 words : (c : goal.After-from) → DivisorWords c.args.y c.least_reach-least.result c.from.result
@@ -23,3 +23,8 @@ pub returns-clause-low : goal.returns-clause-low
 returns-clause-low c =
     let w : DivisorWords c.args.y c.least_reach-least.result c.from.result = divisor_words c.args.y c.least_reach-least.result c.from.result c.requires.small c.requires.nonzero c.least_reach-least.ensures.low c.least_reach-least.ensures.high c.least_reach-least.ensures.value (omega (arith, ints)) in
     rw (returns-clause-value c) (product_some _ _ w.some w.low)
+
+pub returns-clause-high : goal.returns-clause-high
+returns-clause-high c =
+    let w : DivisorWords c.args.y c.least_reach-least.result c.from.result = divisor_words c.args.y c.least_reach-least.result c.from.result c.requires.small c.requires.nonzero c.least_reach-least.ensures.low c.least_reach-least.ensures.high c.least_reach-least.ensures.value (omega (arith, ints)) in
+    divisor_high c.args.y c.least_reach-least.result c.from.result c.product.result w c.least_reach-least.ensures.high c.least_reach-least.ensures.value c.requires.small.positive c.product.ensures.size (search rules)

@@ -1,5 +1,4 @@
-use Rattle.std.proofs.Common.{◌<◌, length}
-use Rattle.cert_rules.proofs.RuleFacts.{ArithThere, arith_returns, arith_there, converted_returns, entry_small, entry_there, scaled_there}
+use Rattle.cert_rules.proofs.RuleFacts.{ArithThere, arith_returns, arith_there, entry_small, entry_there, same_points, ScaledThere, scaled_returns, scaled_there}
 use Rattle.cert_rules.proofs.ruling.block_bounds.Goals as goal
 use Rattle.cert_rules.proofs.ruling.block_bounds.Goals.{In-Arith, In-Scaled}
 
@@ -8,8 +7,8 @@ arith_arguments : (c : In-Arith) → ArithThere c.args.net.now c.in-Arith.op c.i
 arith_arguments c =
     arith_there c.args.net.now c.args.wire.0 c.args.block _ _ _ _ _ _ c.requires.valid c.requires.there c.requires.block c.in-Arith.is
 
-converted_argument : (c : In-Scaled) → c.in-Scaled.x.0 < length c.args.net.now.wires
-converted_argument c =
+form_arguments : (c : In-Scaled) → ScaledThere c.args.net.now c.in-Scaled.x c.in-Scaled.y
+form_arguments c =
     scaled_there c.args.net.now c.args.wire.0 c.args.block _ _ _ _ c.requires.valid c.requires.there c.requires.block c.in-Scaled.is
 
 pub value_entry-first-requires : goal.value_entry-first-requires
@@ -46,19 +45,28 @@ pub returns-in-Arith : goal.returns-in-Arith
 returns-in-Arith c =
     arith_returns c.args.net.now c.args.all.now c.args.wire.0 c.args.block _ _ _ _ _ _ _ _ _ _ c.requires.valid c.requires.sound c.requires.there c.requires.block c.in-Arith.is c.value_entry-first.ensures c.value_entry-second.ensures c.value_entry-third.ensures c.operation_bounds.ensures
 
+pub point_at-requires-clause-there : goal.point_at-requires-clause-there
+point_at-requires-clause-there c = (form_arguments c).first
+
+pub point_at-requires-in-Scaled-clause-there : goal.point_at-requires-in-Scaled-clause-there
+point_at-requires-in-Scaled-clause-there c = (form_arguments (goal.at.point_at-requires-in-Scaled-clause-there c).In-Scaled).second
+
 pub value_entry-first-requires-in-Scaled : goal.value_entry-first-requires-in-Scaled
 value_entry-first-requires-in-Scaled c =
-    entry_there c.args.net.now.wires c.args.all.now _ c.requires.complete (converted_argument c)
+    entry_there c.args.net.now.wires c.args.all.now _ c.requires.complete (form_arguments (goal.at.value_entry-first-requires-in-Scaled c).In-Scaled).first
 
-pub point_at-requires-clause-there : goal.point_at-requires-clause-there
-point_at-requires-clause-there c = converted_argument (goal.at.point_at-requires-clause-there c).In-Scaled
+pub value_entry-second-requires-in-Scaled : goal.value_entry-second-requires-in-Scaled
+value_entry-second-requires-in-Scaled c =
+    entry_there c.args.net.now.wires c.args.all.now _ c.requires.complete (form_arguments (goal.at.value_entry-second-requires-in-Scaled c).In-Scaled).second
 
-pub converted_bounds-requires-clause-small : goal.converted_bounds-requires-clause-small
-converted_bounds-requires-clause-small c =
-    entry_small c.args.net.now.wires c.args.all.now _ _ c.requires.sound (converted_argument (goal.at.converted_bounds-requires-clause-small c).In-Scaled) c.value_entry-first-in-Scaled.ensures
+pub form_bounds-requires-clause-first : goal.form_bounds-requires-clause-first
+form_bounds-requires-clause-first c =
+    entry_small c.args.net.now.wires c.args.all.now _ _ c.requires.sound (form_arguments (goal.at.form_bounds-requires-clause-first c).In-Scaled).first c.value_entry-first-in-Scaled.ensures
+
+pub form_bounds-requires-clause-second : goal.form_bounds-requires-clause-second
+form_bounds-requires-clause-second c =
+    entry_small c.args.net.now.wires c.args.all.now _ _ c.requires.sound (form_arguments (goal.at.form_bounds-requires-clause-second c).In-Scaled).second c.value_entry-second-in-Scaled.ensures
 
 pub returns-in-Scaled : goal.returns-in-Scaled
 returns-in-Scaled c =
-    let there = converted_argument (goal.at.returns-in-Scaled c).In-Scaled in
-    let e = c.converted_bounds.ensures in
-    converted_returns _ _ _ c.args.block _ _ _ _ _ _ _ _ c.in-Scaled.is there c.value_entry-first-in-Scaled.ensures (entry_small c.args.net.now.wires c.args.all.now _ _ c.requires.sound there c.value_entry-first-in-Scaled.ensures) c.point_at.ensures.point c.point_at-in-Scaled.ensures.point e.lo e.hi e.err
+    scaled_returns c.args.net.now c.args.all.now c.args.wire.0 c.args.block _ _ _ _ _ _ _ _ c.requires.valid c.requires.sound c.requires.there c.requires.block c.in-Scaled.is (same_points _ _ _ _ _ _ c.point_at.ensures.point c.point_at-in-Scaled.ensures.point c.point_at-in-Scaled-2.ensures.point) c.value_entry-first-in-Scaled.ensures c.value_entry-second-in-Scaled.ensures c.form_bounds.ensures

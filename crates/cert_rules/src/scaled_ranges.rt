@@ -1,0 +1,68 @@
+// The range of a form with binary points: the hull of its values at the corners of its arguments'
+// ranges.
+
+ghost use Rattle.std.specs.Prelude.{◌≡◌, ◌<◌, ◌≤◌, ◌^◌, unsigned_abs};
+ghost use Rattle.cert_rules.specs.Entries.{IsSmall};
+ghost use Rattle.cert_rules.specs.Ranges.{greatest_among, least_among};
+ghost use Rattle.cert_rules.specs.ScaledCorners.{AreLow, FormHasDivisor, FormHasDivisorsAtEnds, form_greatest_at_corners, form_greatest_over_second, form_least_at_corners, form_least_over_second, two};
+ghost use Rattle.cert_rules.specs.ScaledRules.{level_points, scaled_values};
+
+use crate::arith_ranges::Range;
+use crate::bounds::Bounds;
+use crate::scaled_values::value_at;
+use mfx_scaled::{Points, ScaledOp};
+
+// The values over the ends of the second argument's range.
+#[tactic(auto, unfolding(crate::specs::ScaledCorners::form_least_over_second, crate::specs::ScaledCorners::form_greatest_over_second))]
+fn over_second(op: ScaledOp, p: Points, x: i64, y: Bounds) -> Range
+    requires points { AreLow p }
+    requires first { unsigned_abs x < 2 ^ 32 }
+    requires second { IsSmall y }
+    requires divisor { FormHasDivisorsAtEnds op y }
+    ensures lo { result.lo ≡ form_least_over_second op p x y }
+    ensures hi { result.hi ≡ form_greatest_over_second op p x y }
+{
+    Range::at(value_at(op, p, x, y.lo)).joined(Range::at(value_at(op, p, x, y.hi)))
+}
+
+// The values at all corners.
+#[tactic(auto, unfolding(crate::specs::ScaledCorners::form_least_at_corners, crate::specs::ScaledCorners::form_greatest_at_corners))]
+fn at_corners(op: ScaledOp, p: Points, x: Bounds, y: Bounds) -> Range
+    requires points { AreLow p }
+    requires first { IsSmall x }
+    requires second { IsSmall y }
+    requires divisor { FormHasDivisorsAtEnds op y }
+    ensures lo { result.lo ≡ form_least_at_corners op p x y }
+    ensures hi { result.hi ≡ form_greatest_at_corners op p x y }
+{
+    over_second(op, p, x.lo, y).joined(over_second(op, p, x.hi, y))
+}
+
+/// The range of a form's value.
+pub(crate) fn range_of(op: ScaledOp, p: Points, x: Bounds, y: Bounds) -> Range
+    requires points { AreLow p }
+    requires first { IsSmall x }
+    requires second { IsSmall y }
+    requires divisor { FormHasDivisorsAtEnds op y }
+    ensures lo { result.lo ≡ least_among (scaled_values op p (two x y)) }
+    ensures hi { result.hi ≡ greatest_among (scaled_values op p (two x y)) }
+{
+    let range = at_corners(op, p, x, y);
+    match op {
+        ScaledOp::AbsDiff => range.turned(at_corners(ScaledOp::Sub, level(p), x, y)),
+        _ => range,
+    }
+}
+
+// The inputs' points, with the higher of them for the output.
+fn level(p: Points) -> Points
+    requires { AreLow p }
+    ensures points { result ≡ level_points p }
+    ensures low { AreLow result }
+{
+    Points {
+        a: p.a,
+        b: p.b,
+        c: p.a.max(p.b),
+    }
+}
