@@ -1,17 +1,38 @@
--- A text that says a certificate says one entry for each part.
-use Rattle.std.proofs.Common.{◌≡◌, ℕ, ◌+◌, ◌==◌, Bool, true, false, cond, List, [], ◌∷◌, length, Result, Ok, Err, refl, sym, ◌∙◌, ap, eqb-true}
-use Rattle.text_words.specs.Lines.{lines_of, words_of}
+-- A text that says a certificate says one entry for each part, and each entry is proper.
+use Rattle.std.proofs.Common.{◌≡◌, ℕ, suc, ◌+◌, ◌<◌, ◌≤◌, ◌^◌, ◌==◌, Bool, true, false, cond, ◌&&◌, not, List, [], ◌∷◌, ◌++◌, length, ℤ, pos, negsuc, neg_ℤ, int_le, Option, Some, None, Result, Ok, Err, refl, sym, ◌∙◌, ap, subst, eqb-true, arith}
+use Rattle.std.specs.Prelude.{bytes_eq, codes, ok_or, position}
+use Rattle.std.specs.List.{position_or_len}
+use Rattle.std.proofs.lemmas.Bool.{true≢false, false≢true, and_from, and_parts, not_from_true, ltb-false, le-ltb}
+use Rattle.text_words.specs.Lines.{lines_of, nth, words_of}
+use Rattle.text_words.specs.Numbers.{number_of}
 use Rattle.net_model.specs.declared.wires.Wire.{Wire}
-use Rattle.net_model.specs.Wires.{parts_of}
-use Rattle.net_model.specs.Forms.{◌>>=◌}
+use Rattle.net_model.specs.Wires.{NetData, parts_of}
+use Rattle.net_model.specs.Validity.{IsValid}
+use Rattle.net_model.proofs.ValidityFacts.{length-parts_of, length-valid}
+use Rattle.text_words.specs.Steps.{◌>>=◌}
 use Rattle.cert_rules.specs.declared.bounds.Bounds.{Bounds}
-use Rattle.bench_core.specs.declared.cert_kind.CertKind.TheVariants.{Missing}
-use Rattle.bench_core.specs.CertificateText.{demand, located, after_line, ended, walked, is_head, from_head, certificate_of}
+use Rattle.cert_rules.specs.Proper.{is_entry_number, is_proper_entry, first_improper}
+use Rattle.bench_core.specs.declared.cert_kind.CertKind.{CertKind}
+use Rattle.bench_core.specs.declared.cert_kind.CertKind.TheVariants.{BadLine, WrongPart, BadNumber, EmptyRange, Missing}
+use Rattle.bench_core.specs.CertificateText.{demand, number_within, most, names_next, part_line, located, after_line, ended, walked, is_head, from_head, certificate_of}
 
--- two steps that give something: the first does
-bound : {A B E : Type 0} (r : Result A E) (next : A → Result B E) (y : B) → (r >>= next) ≡ Ok y → (x : A) × (next x ≡ Ok y)
-bound (Ok x) next y h = (x, h)
+-- two steps that give something: the first does, and the second goes on with it
+record Bound {A B E : Type 0} (r : Result A E) (next : A → Result B E) (y : B) : Type 0 where
+  value : A
+  gives : r ≡ Ok value
+  later : next value ≡ Ok y
+
+bound : {A B E : Type 0} (r : Result A E) (next : A → Result B E) (y : B) → (r >>= next) ≡ Ok y → Bound r next y
+bound (Ok x) next y h = record { value = x; gives = refl; later = h }
 bound (Err e) next y h = cc
+
+-- a test and a step that give something: the test holds, and the step gives it
+demanded : {B : Type 0} (test : Bool) (kind : CertKind) (next : Unit {0} → Result B CertKind) (y : B) → (demand test kind >>= next) ≡ Ok y → (test ≡ true) × (next tt ≡ Ok y)
+demanded true kind next y h = (refl, h)
+demanded false kind next y h = cc
+
+ok_same : {A E : Type 0} (x y : A) → ◌≡◌ {A = Result A E} (Ok x) (Ok y) → x ≡ y
+ok_same x y h = cc
 
 -- a choice that gives something gives it on the side that is taken
 chosen : {A : Type 0} (b : Bool) (x y z : A) (P : Type 0) → (x ≡ z → P) → (y ≡ z → P) → cond b x y ≡ z → P
@@ -29,7 +50,7 @@ walked_complete wires above found [] entries h =
     ap length (sym e.1) ∙ eqb-true (length found) (length (parts_of wires)) e.0
 walked_complete wires above found (line ∷ rest) entries h =
     let e = bound (located (above + 1) (after_line wires found (words_of line))) (λ next. walked wires (above + 1) next rest) entries h in
-    walked_complete wires (above + 1) e.0 rest entries e.1
+    walked_complete wires (above + 1) e.value rest entries e.later
 
 from_head_complete : (wires : List Wire) (above : ℕ) (lines : List (List ℕ)) (entries : List Bounds) → from_head wires above lines ≡ Ok entries → length entries ≡ length (parts_of wires)
 unfolding from_head
@@ -41,3 +62,128 @@ from_head_complete wires above (line ∷ rest) entries h =
 pub certificate_of-complete : (wires : List Wire) (text : List ℕ) (entries : List Bounds) → certificate_of wires text ≡ Ok entries → length entries ≡ length (parts_of wires)
 unfolding certificate_of
 certificate_of-complete wires text entries h = from_head_complete wires 0 (lines_of text) entries h
+
+-- so they are few
+pub few_entries : (net : NetData) (entries : List Bounds) → IsValid net → length entries ≡ length (parts_of net.wires) → length entries < 2 ^ 32
+few_entries net entries valid e =
+    let few : length net.wires ≤ 512 = length-valid net valid in
+    omega (arith, few, e, length-parts_of net.wires)
+
+-- ---- an entry of a line is proper
+
+number_between : (least greatest : ℤ) (word : List ℕ) (v : ℤ) → number_within least greatest word ≡ Ok v → (int_le least v && int_le v greatest) ≡ true
+unfolding number_within
+number_between least greatest word v h =
+    let n = bound (ok_or (number_of word) BadNumber) (λ value. demand (int_le least value && int_le value greatest) BadNumber >>= (λ _. Ok value)) v h in
+    let t = demanded (int_le least n.value && int_le n.value greatest) BadNumber (λ _. Ok n.value) v n.later in
+    subst (λ z. (int_le least z && int_le z greatest) ≡ true) (ok_same n.value v t.1) t.0
+
+above_least : (z : ℤ) → int_le (pos 0) z ≡ true → int_le (neg_ℤ most) z ≡ true
+above_least (pos k) h = refl
+above_least (negsuc k) h = absurd (false≢true h)
+
+proper_of : (lo hi err : ℤ) → int_le lo hi ≡ true → is_entry_number lo ≡ true → is_entry_number hi ≡ true → (int_le (pos 0) err && int_le err most) ≡ true → is_proper_entry (record { lo = lo; hi = hi; err = err }) ≡ true
+proper_of lo hi err order low high error =
+    let e = and_parts (int_le (pos 0) err) (int_le err most) error in
+    and_from _ _ (and_from _ _ (and_from _ _ (and_from _ _ order e.0) low) high) (and_from _ _ (above_least err e.0) e.1)
+
+-- the steps of a line, the last first
+unfoldable bounds_in_order : ℤ → ℤ → ℤ → Result Bounds CertKind
+bounds_in_order lo hi err = demand (int_le lo hi) EmptyRange >>= (λ _. Ok (record { lo = lo; hi = hi; err = err }))
+
+unfoldable bounds_behind : List (List ℕ) → ℤ → ℤ → Result Bounds CertKind
+bounds_behind words lo hi = number_within (pos 0) most (nth words 4) >>= (λ err. bounds_in_order lo hi err)
+
+unfoldable bounds_from : List (List ℕ) → ℤ → Result Bounds CertKind
+bounds_from words lo = number_within (neg_ℤ most) most (nth words 3) >>= (λ hi. bounds_behind words lo hi)
+
+unfoldable bounds_of_line : List (List ℕ) → Result Bounds CertKind
+bounds_of_line words = number_within (neg_ℤ most) most (nth words 2) >>= (λ lo. bounds_from words lo)
+
+bounds_of_line-proper : (words : List (List ℕ)) (b : Bounds) → bounds_of_line words ≡ Ok b → is_proper_entry b ≡ true
+unfolding bounds_of_line bounds_from bounds_behind bounds_in_order
+bounds_of_line-proper words b h =
+    let lo = bound (number_within (neg_ℤ most) most (nth words 2)) (λ lo. bounds_from words lo) b h in
+    let hi = bound (number_within (neg_ℤ most) most (nth words 3)) (λ hi. bounds_behind words lo.value hi) b lo.later in
+    let err = bound (number_within (pos 0) most (nth words 4)) (λ err. bounds_in_order lo.value hi.value err) b hi.later in
+    let said : Bounds = record { lo = lo.value; hi = hi.value; err = err.value } in
+    let order = demanded (int_le lo.value hi.value) EmptyRange (λ _. Ok said) b err.later in
+    let low = number_between (neg_ℤ most) most (nth words 2) lo.value lo.gives in
+    let high = number_between (neg_ℤ most) most (nth words 3) hi.value hi.gives in
+    let error = number_between (pos 0) most (nth words 4) err.value err.gives in
+    subst (λ x. is_proper_entry x ≡ true) (ok_same said b order.1) (proper_of lo.value hi.value err.value order.0 low high error)
+
+part_line-proper : (wires : List Wire) (k : ℕ) (words : List (List ℕ)) (b : Bounds) → part_line wires k words ≡ Ok b → is_proper_entry b ≡ true
+unfolding part_line bounds_of_line bounds_from bounds_behind bounds_in_order
+part_line-proper wires k words b h =
+    let form = demanded (bytes_eq (nth words 0) (codes "part") && (length words == 5)) BadLine (λ _. demand (names_next wires k (nth words 1)) WrongPart >>= (λ _. bounds_of_line words)) b h in
+    let name = demanded (names_next wires k (nth words 1)) WrongPart (λ _. bounds_of_line words) b form.1 in
+    bounds_of_line-proper words b name.1
+
+-- ---- so are all entries of a text
+
+none_is : (some : Bool) (k : ℕ) → cond some (Some k) None ≡ None → some ≡ false
+none_is true k h = cc
+none_is false k h = refl
+
+none_from : (some : Bool) (k : ℕ) → some ≡ false → cond some (Some k) None ≡ None
+none_from true k h = absurd (true≢false h)
+none_from false k h = refl
+
+behind_step : (here : Bool) (p n q m : ℕ) → (n ≤ p → m ≤ q) → suc n ≤ cond here (1 + p) 0 → suc m ≤ cond here (1 + q) 0
+behind_step true p n q m later h =
+    let before : n ≤ p = omega (arith, h) in
+    omega (arith, later before)
+behind_step false p n q m later h = absurd (omega (arith, h))
+
+behind : (test : Bounds → Bool) (entries : List Bounds) (b : Bounds) → test b ≡ false → length entries ≤ position_or_len test entries → length (entries ++ b ∷ []) ≤ position_or_len test (entries ++ b ∷ [])
+behind test [] b one h = rw one (omega arith)
+behind test (e ∷ entries) b one h =
+    behind_step (not (test e)) (position_or_len test entries) (length entries) (position_or_len test (entries ++ b ∷ [])) (length (entries ++ b ∷ [])) (behind test entries b one) h
+
+-- where no entry passes a test, and one behind them doesn't either, none of all does
+none_behind : (test : Bounds → Bool) (entries : List Bounds) (b : Bounds) → test b ≡ false → position test entries ≡ None → position test (entries ++ b ∷ []) ≡ None
+none_behind test entries b one h =
+    let before = ltb-false (position_or_len test entries) (length entries) (none_is _ _ h) in
+    none_from _ _ (le-ltb (position_or_len test (entries ++ b ∷ [])) (length (entries ++ b ∷ [])) (behind test entries b one before))
+
+some_is_not_none : (k : ℕ) → ◌≡◌ {A = Option ℕ} (Some k) None → ⊥
+some_is_not_none k h = cc
+
+located_ok : {A : Type 0} (line : ℕ) (r : Result A CertKind) (x : A) → located line r ≡ Ok x → r ≡ Ok x
+located_ok line (Ok y) x h = let same : y ≡ x = cc in ap Ok same
+located_ok line (Err kind) x h = cc
+
+entry_behind : (wires : List Wire) (found : List Bounds) (words : List (List ℕ)) (next : List Bounds) → first_improper found ≡ None → (part_line wires (length found) words >>= (λ entry. Ok (found ++ entry ∷ []))) ≡ Ok next → first_improper next ≡ None
+entry_behind wires found words next none h =
+    let e = bound (part_line wires (length found) words) (λ entry. Ok (found ++ entry ∷ [])) next h in
+    let proper = part_line-proper wires (length found) words e.value e.gives in
+    subst (λ entries. first_improper entries ≡ None) (ok_same _ next e.later) (none_behind (λ b. not (is_proper_entry b)) found e.value (not_from_true _ proper) none)
+
+after_line-proper : (wires : List Wire) (found : List Bounds) (words : List (List ℕ)) (next : List Bounds) → first_improper found ≡ None → after_line wires found words ≡ Ok next → first_improper next ≡ None
+unfolding after_line
+after_line-proper wires found words next none h =
+    chosen (length words == 0) _ _ _ _ (λ same. subst (λ entries. first_improper entries ≡ None) (ok_same found next same) none) (entry_behind wires found words next none) h
+
+walked_proper : (wires : List Wire) (above : ℕ) (found : List Bounds) (lines : List (List ℕ)) (entries : List Bounds) → first_improper found ≡ None → walked wires above found lines ≡ Ok entries → first_improper entries ≡ None
+unfolding walked ended
+walked_proper wires above found [] entries none h =
+    let e = ended_complete (length found == length (parts_of wires)) above found entries h in
+    subst (λ all. first_improper all ≡ None) e.1 none
+walked_proper wires above found (line ∷ rest) entries none h =
+    let e = bound (located (above + 1) (after_line wires found (words_of line))) (λ next. walked wires (above + 1) next rest) entries h in
+    walked_proper wires (above + 1) e.value rest entries (after_line-proper wires found (words_of line) e.value none (located_ok (above + 1) _ e.value e.gives)) e.later
+
+from_head_proper : (wires : List Wire) (above : ℕ) (lines : List (List ℕ)) (entries : List Bounds) → from_head wires above lines ≡ Ok entries → first_improper entries ≡ None
+unfolding from_head
+from_head_proper wires above [] entries h = cc
+from_head_proper wires above (line ∷ rest) entries h =
+    chosen (length (words_of line) == 0) _ _ _ _ (from_head_proper wires (above + 1) rest entries) (chosen (is_head (words_of line)) _ _ _ _ (walked_proper wires (above + 1) [] rest entries refl) (λ fault. cc)) h
+
+certificate_of-proper : (wires : List Wire) (text : List ℕ) (entries : List Bounds) → certificate_of wires text ≡ Ok entries → first_improper entries ≡ None
+unfolding certificate_of
+certificate_of-proper wires text entries h = from_head_proper wires 0 (lines_of text) entries h
+
+-- each entry of a text's certificate is proper, so none is the first that isn't
+pub never_improper : (wires : List Wire) (text : List ℕ) (entries : List Bounds) (k : ℕ) → certificate_of wires text ≡ Ok entries → first_improper entries ≡ Some k → ⊥
+never_improper wires text entries k h improper = some_is_not_none k (sym improper ∙ certificate_of-proper wires text entries h)

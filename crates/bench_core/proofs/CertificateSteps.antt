@@ -9,7 +9,7 @@ use Rattle.bench_core.specs.declared.cert_kind.CertKind.{CertKind}
 use Rattle.bench_core.specs.declared.cert_kind.CertKind.TheVariants.{Missing}
 use Rattle.bench_core.specs.declared.cert_kind.CertFault.{CertFault}
 use Rattle.bench_core.specs.CertificateText.{demand, located, part_line, after_line, ended, walked, is_head, no_head, from_head, certificate_of}
-use Rattle.net_model.specs.Forms.{◌>>=◌}
+use Rattle.text_words.specs.Steps.{◌>>=◌}
 
 -- ---- up to the head
 

@@ -1,5 +1,5 @@
 -- Where `check` answers 0, the certificate holds.
-use Rattle.std.proofs.Common.{◌≡◌, ℕ, Bool, true, false, List, length, Option, Some, None, Ok, refl, sym, ◌∙◌, subst, append-nil, arith, if◌then◌else◌}
+use Rattle.std.proofs.Common.{◌<◌, ◌≡◌, ℕ, Bool, true, false, List, length, Option, Some, None, Ok, refl, sym, ◌∙◌, subst, append-nil, arith, if◌then◌else◌}
 use Rattle.std.specs.Prelude.{⊤, nat_lt, ◌&&◌}
 use Rattle.std.specs.Io.KnownBytes.{Appends}
 use Rattle.fx_io.specs.Outside.{bytes_of}
@@ -9,15 +9,17 @@ use Rattle.cert_rules.specs.declared.bounds.Bounds.{Bounds}
 use Rattle.cert_rules.specs.Acceptance.{first_rejected}
 use Rattle.cert_rules.proofs.AcceptanceLaws.{accepts_from_none_rejected, all_are_smooth}
 use Rattle.cert_rules.proofs.TheoremProof.{certificates_hold}
-use Rattle.net_model.specs.Text.{network_of}
+use Rattle.net_text.specs.Text.{network_of}
 use Rattle.bench_core.specs.PartNames.{part_name}
 use Rattle.bench_core.specs.CertificateText.{certificate_of}
-use Rattle.net_model.proofs.ReadingLaw.{network_of_valid}
+use Rattle.net_text.proofs.ReadingLaw.{network_of_valid}
 use Rattle.bench_core.proofs.CertificateLaws.{certificate_of-complete}
 use Rattle.bench_core.proofs.PassedSteps.{RefusesAbove, above_from, bytes_above, bytes_given, chain_above, chain_given, faultless_above, given_faultless, network_above, network_given, ok_is_not_error, passed}
 use Rattle.bench_core.specs.Outcomes.{Outcome}
 use Rattle.bench_core.specs.RefusalTexts.{not_accepted}
 use Rattle.bench_core.specs.Requests.{check, is_file_word, check_words, request_of}
+use Rattle.bench_core.specs.declared.cert_kind.CertFault.{CertFault}
+use Rattle.bench_core.specs.RefusalTexts.{bad_certificate}
 use Rattle.bench_core.specs.CheckAnswer.{file_read, network_read, certificate_in, certificate_read, if_none_rejected, acceptance, accepted_line, tell_accepted, check_entries, check_certificate, check_answer, text_limit}
 use Rattle.bench_core.specs.WholeAnswer.{answer_of, answer_of_request}
 use Rattle.bench_core.specs.Headline.{IsCertified}
@@ -25,11 +27,14 @@ use Rattle.bench_core.specs.Clauses.{Certifies}
 
 -- ---- the certificate
 
+bad_certificate_above : (name : List ℕ) (fault : CertFault) → 0 < (bad_certificate name fault).status
+bad_certificate_above name fault = omega arith
+
 certificate_above : (files : List (List ℕ × List ℕ)) (wires : List Wire) (name : List ℕ) → RefusesAbove (certificate_read files wires name)
 unfolding certificate_read certificate_in
 certificate_above files wires name =
     let bytes = bytes_of files name in
-    chain_above (file_read files name text_limit) (certificate_in wires name) (bytes_above (nat_lt text_limit (length bytes)) name bytes) (λ x. faultless_above 5 name (certificate_of wires x) (omega arith))
+    chain_above (file_read files name text_limit) (certificate_in wires name) (bytes_above (nat_lt text_limit (length bytes)) name bytes) (λ x. faultless_above (bad_certificate name) (certificate_of wires x) (bad_certificate_above name))
 
 certificate_given : (files : List (List ℕ × List ℕ)) (wires : List Wire) (name : List ℕ) (entries : List Bounds) → certificate_read files wires name ≡ Ok entries → certificate_of wires (bytes_of files name) ≡ Ok entries
 unfolding certificate_read certificate_in
@@ -37,7 +42,7 @@ certificate_given files wires name entries h =
     let bytes = bytes_of files name in
     let p = chain_given (file_read files name text_limit) (certificate_in wires name) entries h in
     let e = bytes_given (nat_lt text_limit (length bytes)) name bytes p.middle p.first in
-    subst (λ b. certificate_of wires b ≡ Ok entries) e (given_faultless 5 name (certificate_of wires p.middle) entries p.second)
+    subst (λ b. certificate_of wires b ≡ Ok entries) e (given_faultless (bad_certificate name) (certificate_of wires p.middle) entries p.second)
 
 -- ---- acceptance
 

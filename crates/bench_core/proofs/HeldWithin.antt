@@ -6,7 +6,7 @@ use Rattle.text_words.proofs.Held.{held_least, held_most, held_between}
 use Rattle.bench_core.specs.declared.cert_kind.CertKind.{CertKind}
 use Rattle.bench_core.specs.declared.cert_kind.CertKind.TheVariants.{BadNumber}
 use Rattle.bench_core.specs.CertificateText.{demand, number_within}
-use Rattle.net_model.specs.Forms.{◌>>=◌}
+use Rattle.text_words.specs.Steps.{◌>>=◌}
 
 -- the number between two ends, if it is there
 abbrev pub within_from : ℤ → ℤ → Option ℤ → Result ℤ CertKind

@@ -3,10 +3,12 @@ use Rattle.std.proofs.Common.{◌≡◌, ℕ, ◌<◌, Bool, true, false, List, 
 use Rattle.std.specs.Prelude.{nat_lt}
 use Rattle.fx_io.specs.Outside.{bytes_of}
 use Rattle.net_model.specs.Wires.{NetData}
-use Rattle.net_model.specs.Text.{network_of, has_unbuilt}
-use Rattle.net_model.specs.Forms.{◌>>=◌}
+use Rattle.net_text.specs.declared.reader.NetFault.{NetFault}
+use Rattle.net_text.specs.Text.{network_of}
+use Rattle.text_words.specs.Steps.{◌>>=◌}
 use Rattle.bench_core.specs.Outcomes.{Outcome, Refusal, after}
-use Rattle.bench_core.specs.RefusalTexts.{too_long, not_built, refused_text}
+use Rattle.bench_core.specs.RefusalTexts.{too_long}
+use Rattle.bench_core.specs.FaultTexts.{bad_network}
 use Rattle.bench_core.specs.CheckAnswer.{if_faultless, file_read, network_in, network_read, text_limit}
 
 -- a step's refusals have other statuses than 0
@@ -40,13 +42,13 @@ pub same_given : {T : Type 0} (y x : T) → ◌≡◌ {A = Result T Refusal} (Ok
 same_given y x h = cc
 
 -- a text without fault is what it means
-pub given_faultless : {T F : Type 0} (status : ℕ) (name : List ℕ) (read : Result T F) (x : T) → if_faultless status name read ≡ Ok x → read ≡ Ok x
-given_faultless status name (Ok y) x h = ap Ok (same_given y x h)
-given_faultless status name (Err f) x h = absurd (ok_is_not_error x (refused_text status name) (sym h))
+pub given_faultless : {T F : Type 0} (refusal : F → Refusal) (read : Result T F) (x : T) → if_faultless refusal read ≡ Ok x → read ≡ Ok x
+given_faultless refusal (Ok y) x h = ap Ok (same_given y x h)
+given_faultless refusal (Err f) x h = absurd (ok_is_not_error x (refusal f) (sym h))
 
-pub faultless_above : {T F : Type 0} (status : ℕ) (name : List ℕ) (read : Result T F) → 0 < status → RefusesAbove (if_faultless status name read)
-faultless_above status name (Ok y) p r h = absurd (ok_is_not_error y r h)
-faultless_above status name (Err f) p r h = above_from (refused_text status name) p r h
+pub faultless_above : {T F : Type 0} (refusal : F → Refusal) (read : Result T F) → ((f : F) → 0 < (refusal f).status) → RefusesAbove (if_faultless refusal read)
+faultless_above refusal (Ok y) p r h = absurd (ok_is_not_error y r h)
+faultless_above refusal (Err f) p r h = above_from (refusal f) (p f) r h
 
 -- two parts of a step
 pub chain_above : {A B : Type 0} (step : Result A Refusal) (f : A → Result B Refusal) → RefusesAbove step → ((x : A) → RefusesAbove (f x)) → RefusesAbove (step >>= f)
@@ -72,19 +74,15 @@ bytes_given true name bytes x h = absurd (ok_is_not_error x (too_long name) (sym
 bytes_given false name bytes x h = cc
 
 -- the network of a text
-pub network_in_above : {F : Type 0} (u : Bool) (name : List ℕ) (read : Result NetData F) → RefusesAbove (if u then Err (not_built name) else if_faultless 3 name read)
-network_in_above true name read r h = above_from (not_built name) (omega arith) r h
-network_in_above false name read r h = faultless_above 3 name read (omega arith) r h
-
-pub network_in_given : {F : Type 0} (u : Bool) (name : List ℕ) (read : Result NetData F) (net : NetData) → (if u then Err (not_built name) else if_faultless 3 name read) ≡ Ok net → read ≡ Ok net
-network_in_given true name read net h = absurd (ok_is_not_error net (not_built name) (sym h))
-network_in_given false name read net h = given_faultless 3 name read net h
+bad_network_above : (name : List ℕ) (fault : NetFault) → 0 < (bad_network name fault).status
+unfolding bad_network
+bad_network_above name fault = omega arith
 
 pub network_above : (files : List (List ℕ × List ℕ)) (name : List ℕ) → RefusesAbove (network_read files name)
 unfolding network_read network_in
 network_above files name =
     let bytes = bytes_of files name in
-    chain_above (file_read files name text_limit) (network_in name) (bytes_above (nat_lt text_limit (length bytes)) name bytes) (λ x. network_in_above (has_unbuilt x) name (network_of x))
+    chain_above (file_read files name text_limit) (network_in name) (bytes_above (nat_lt text_limit (length bytes)) name bytes) (λ x. faultless_above (bad_network name) (network_of x) (bad_network_above name))
 
 pub network_given : (files : List (List ℕ × List ℕ)) (name : List ℕ) (net : NetData) → network_read files name ≡ Ok net → network_of (bytes_of files name) ≡ Ok net
 unfolding network_read network_in
@@ -92,4 +90,4 @@ network_given files name net h =
     let bytes = bytes_of files name in
     let p = chain_given (file_read files name text_limit) (network_in name) net h in
     let e = bytes_given (nat_lt text_limit (length bytes)) name bytes p.middle p.first in
-    subst (λ b. network_of b ≡ Ok net) e (network_in_given (has_unbuilt p.middle) name (network_of p.middle) net p.second)
+    subst (λ b. network_of b ≡ Ok net) e (given_faultless (bad_network name) (network_of p.middle) net p.second)

@@ -5,7 +5,7 @@ use Rattle.std.specs.Io.KnownBytes.{Appends}
 use Rattle.fx_io.specs.Outside.{bytes_of}
 use Rattle.net_model.specs.declared.wires.Wire.{Wire}
 use Rattle.net_model.specs.Wires.{NetData}
-use Rattle.net_model.proofs.ReadingLaw.{network_of_valid}
+use Rattle.net_text.proofs.ReadingLaw.{network_of_valid}
 use Rattle.net_meaning.specs.Blocks.{machine}
 use Rattle.net_meaning.specs.Runs.{table}
 use Rattle.net_meaning.proofs.TableRun.{table_is_run}

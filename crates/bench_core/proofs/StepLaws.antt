@@ -3,7 +3,7 @@ use Rattle.std.proofs.Common.{◌≡◌, ℕ, List, Result, Ok, Err, sym, ◌∙
 use Rattle.bench_core.specs.declared.endings.Ending.{Ending}
 use Rattle.bench_core.specs.declared.endings.Ending.TheVariants.{Usage, Refused, CannotRead, CannotWrite, OutOfMemory}
 use Rattle.bench_core.specs.Outcomes.{Refusal}
-use Rattle.net_model.specs.Forms.{◌>>=◌}
+use Rattle.text_words.specs.Steps.{◌>>=◌}
 use Rattle.bench_core.specs.HowItEnds.{Gives, Makes, RefusesWith, StopsAt, StopsInside}
 
 -- two refusals of one status and one text are one

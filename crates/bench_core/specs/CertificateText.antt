@@ -5,7 +5,7 @@ use Rattle.text_words.specs.Lines.{lines_of, nth, words_of}
 use Rattle.text_words.specs.Numbers.{number_of}
 use Rattle.net_model.specs.declared.wires.Wire.{Wire}
 use Rattle.net_model.specs.Wires.{parts_of}
-use Rattle.net_model.specs.Forms.{◌>>=◌}
+use Rattle.text_words.specs.Steps.{◌>>=◌}
 use Rattle.cert_rules.specs.declared.bounds.Bounds.{Bounds}
 use Rattle.bench_core.specs.declared.cert_kind.CertKind.{CertKind}
 use Rattle.bench_core.specs.declared.cert_kind.CertKind.TheVariants.{NoHead, BadLine, WrongPart, BadNumber, EmptyRange, Missing}
@@ -71,6 +71,7 @@ walked wires above entries (line ∷ rest) = do
 abbrev pub is_head : List (List ℕ) → Bool
 is_head words = bytes_eq (nth words 0) (codes "cert") && bytes_eq (nth words 1) (codes "1") && (length words == 2)
 
+-- the fault of a line, from 1, that stands in the place of the head
 abbrev pub no_head : ℕ → Result (List Bounds) CertFault
 no_head line = Err (record { line = line; kind = NoHead })
 

@@ -2,7 +2,7 @@
 use Rattle.std.specs.Prelude.{◌≡◌, ℕ, ℤ, true, List, None, Ok}
 use Rattle.fx_fraction.specs.Fraction.{Fraction}
 use Rattle.net_model.specs.Wires.{NetData}
-use Rattle.net_model.specs.Text.{network_of}
+use Rattle.net_text.specs.Text.{network_of}
 use Rattle.net_meaning.specs.Cells.{Cell}
 use Rattle.net_meaning.specs.Blocks.{machine, exact}
 use Rattle.net_meaning.specs.Runs.{IsRun}

@@ -50,6 +50,7 @@ HasStopCause file before now failed (CannotRead text) = Rose before now × (fail
 HasStopCause file before now failed CannotWrite = ⊥
 HasStopCause file before now failed OutOfMemory = ⊤
 
+-- the same of a step over a file, whether it stopped or not: no count of faults falls
 abbrev pub HasStepCause : {T : Type 0} → List ℕ → ℕ → ℕ → List ℕ → Result T Ending → Type 0
 HasStepCause file before now failed (Ok v) = before ≤ now
 HasStepCause file before now failed (Err e) = HasStopCause file before now failed e
@@ -75,6 +76,7 @@ StopsPrinting bytes old new before now (CannotRead text) = ⊥
 StopsPrinting bytes old new before now CannotWrite = Rose before now × WritesFront old new bytes
 StopsPrinting bytes old new before now OutOfMemory = WritesFront old new bytes
 
+-- printing these bytes: all were written, or it stopped
 abbrev pub Prints : {T : Type 0} → List ℕ → Option (List ℕ) → Option (List ℕ) → ℕ → ℕ → Result T Ending → Type 0
 Prints bytes old new before now (Ok v) = Appends old new bytes
 Prints bytes old new before now (Err e) = StopsPrinting bytes old new before now e
@@ -103,6 +105,7 @@ HasEarlyCause files shelf_before shelf_now failed out_before out_now (CannotRead
 HasEarlyCause files shelf_before shelf_now failed out_before out_now CannotWrite = Rose out_before out_now
 HasEarlyCause files shelf_before shelf_now failed out_before out_now OutOfMemory = ⊤
 
+-- the same of a command, whether it ended early or not
 abbrev pub HasEndingCause : {T : Type 0} → List (List ℕ) → ℕ → ℕ → List ℕ → ℕ → ℕ → Result T Ending → Type 0
 HasEndingCause files shelf_before shelf_now failed out_before out_now (Ok v) = ⊤
 HasEndingCause files shelf_before shelf_now failed out_before out_now (Err e) = HasEarlyCause files shelf_before shelf_now failed out_before out_now e

@@ -3,6 +3,7 @@ pub mod CertificateText
 pub mod CertificateReading
 pub mod Outcomes
 pub mod RefusalTexts
+pub mod FaultTexts
 pub mod Requests
 pub mod Statuses
 pub mod HowItEnds

@@ -33,6 +33,7 @@ row_reason wires row.OutOfMemory = []
 abbrev pub row_line : ℕ → List ℕ → List ℕ
 row_line number reason = codes "row " ++ decimal number ++ codes ": " ++ reason ++ 10 ∷ []
 
+-- the refusal of a row, for a reason
 abbrev pub row_refused : ℕ → List ℕ → Refusal
 row_refused number reason = record { status = 4; text = row_line number reason }
 

@@ -1,5 +1,6 @@
 -- The lines that are said of each status other than 0.
 use Rattle.std.specs.Prelude.{ℕ, List, [], ◌∷◌, ◌++◌, codes}
+use Rattle.bench_core.specs.declared.cert_kind.CertFault.{CertFault}
 use Rattle.bench_core.specs.Outcomes.{Refusal, line}
 
 -- the words are outside the grammar
@@ -22,13 +23,9 @@ out_of_memory = codes "out of memory" ++ 10 ∷ []
 abbrev pub too_long : List ℕ → Refusal
 too_long file = record { status = 9; text = line (codes "too long ") file }
 
--- the network's text has a line or a routine that isn't built
-abbrev pub not_built : List ℕ → Refusal
-not_built file = record { status = 3; text = line file (codes ": not built") }
-
--- the text of a file has a fault
-abbrev pub refused_text : ℕ → List ℕ → Refusal
-refused_text status file = record { status = status; text = line file (codes ": refused") }
+-- the certificate's text has a fault; which one isn't told yet
+abbrev pub bad_certificate : List ℕ → CertFault → Refusal
+bad_certificate file fault = record { status = 5; text = line file (codes ": refused") }
 
 -- the certificate isn't accepted, and this part fails first
 abbrev pub not_accepted : List ℕ → Refusal

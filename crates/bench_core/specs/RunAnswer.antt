@@ -23,15 +23,18 @@ abbrev pub recording_end : NetData → Option RecordingFault → Outcome
 recording_end net None = done
 recording_end net (Some fault) = refused (recording_refused net.wires fault)
 
--- the steps, the last first
+-- the steps of the command, the last first: what is printed of a recording, and how it ends
 unfoldable pub run_recording : NetData → Recording → Outcome
 run_recording net r = printed (run_printed net r.is_headed r.rows) (recording_end net r.fault)
 
+-- the recording of a file's bytes is run
 unfoldable pub run_bytes : NetData → List ℕ → Outcome
 run_bytes net bytes = run_recording net (recording_of net.wires bytes)
 
+-- the recording is read, and then run
 unfoldable pub run_network : List (List ℕ × List ℕ) → List ℕ → NetData → Outcome
 run_network files rec net = reading rec (file_read files rec recording_limit) (run_bytes net)
 
+-- the network is read, and then the recording
 unfoldable pub run_answer : List (List ℕ × List ℕ) → List ℕ → List ℕ → Outcome
 run_answer files net rec = reading net (network_read files net) (run_network files rec)

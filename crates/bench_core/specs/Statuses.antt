@@ -5,5 +5,6 @@ use Rattle.std.specs.Prelude.{ℕ, Bool, ◌&&◌, ◌||◌, nat_lt, IsTrue}
 abbrev pub is_refusal : ℕ → Bool
 is_refusal status = (nat_lt 2 status && nat_lt status 7) || (nat_lt 8 status && nat_lt status 13)
 
+-- the same as a statement
 abbrev pub IsRefusalStatus : ℕ → Type 0
 IsRefusalStatus status = IsTrue (is_refusal status)

@@ -9,19 +9,33 @@ ghost use Rattle.bench_core.specs.CertificateReading.{ReadsCertificate};
 
 use crate::cert_kind::{CertError, CertFault, CertKind};
 use crate::cert_line::{demand, part_line};
-use cert_rules::Bounds;
+use cert_rules::{Bounds, Certificate};
 use net_model::Network;
 use std::alloc::Global;
 use text_words::{count_words, next_line, without_mark, word_at};
 
 /// The certificate that the text says for the network: one entry for each part, in the order of the parts. Each line
 /// is looked at until the first that has a fault. Where memory runs out, nothing is said of the text.
-#[tactic(auto, using(crate::proofs::CertificateSteps::walk_steps))]
-pub fn read_certificate(alloc: Global, net: &Network, text: &[u8]) -> Result<Vec<Bounds>, CertError>
+pub fn read_certificate(alloc: Global, net: &Network, text: &[u8]) -> Result<Certificate, CertError>
+    requires { length text.now < 2 ^ 32 }
+    ensures reads { ReadsCertificate net.now.wires text.now result }
+    ensures complete { IfOk result (λ cert. length cert ≡ length (parts_of net.now.wires)) }
+{
+    let entries = read_entries(alloc, net, text)?;
+    match Certificate::new(entries) {
+        Ok(certificate) => Ok(certificate),
+        Err(_) => unreachable!(),
+    }
+}
+
+// The entries that the text says. A line is refused where its entry isn't proper, so they make a certificate.
+#[tactic(auto, using(crate::proofs::CertificateSteps::walk_steps, crate::proofs::CertificateLaws::few_entries))]
+fn read_entries(alloc: Global, net: &Network, text: &[u8]) -> Result<Vec<Bounds>, CertError>
     requires { length text.now < 2 ^ 32 }
     ensures reads { ReadsCertificate net.now.wires text.now
         (result_map_both vec_items (λ error. error) result) }
     ensures complete { IfOk result (λ v. length v.items ≡ length (parts_of net.now.wires)) }
+    ensures few { IfOk result (λ v. length v.items < 2 ^ 32) }
 {
     let (mut above, mut rest) = behind_head(text)?;
     let mut entries = Vec::with_capacity(alloc, net.parts().len())?;

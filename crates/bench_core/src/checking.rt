@@ -9,7 +9,7 @@ ghost use Rattle.bench_core.specs.HowItEnds.{Ends, HasEndingCause, WhereUnread};
 use super::endings::Ending;
 use super::refusals::print;
 use super::steps::{accept, certificate_at, network_at};
-use cert_rules::Bounds;
+use cert_rules::Certificate;
 use fx_io::{Shelf, Sink};
 use net_model::Network;
 use std::alloc::Global;
@@ -52,8 +52,8 @@ fn certify<S: Shelf, O: Sink>(
         (O.faults out.old) (O.faults out.new) result }
     ensures unread { WhereUnread result (Appends (O.written out.old) (O.written out.new) []) }
 {
-    let entries = certificate_at(alloc, shelf, cert, network)?;
-    tell(alloc, network, &entries, out)
+    let certificate = certificate_at(alloc, shelf, cert, network)?;
+    tell(alloc, network, &certificate, out)
 }
 
 // Prints `accepted` where the certificate is.
@@ -61,16 +61,16 @@ fn certify<S: Shelf, O: Sink>(
 fn tell<O: Sink>(
     alloc: Global,
     network: &Network,
-    entries: &[Bounds],
+    certificate: &Certificate,
     out: &mut O,
 ) -> Result<(), Ending>
-    requires { length entries.now ≡ length (parts_of network.now.wires) }
-    ensures told { (failed : List ℕ) → Ends (check_entries network.now entries.now) failed
+    requires { length certificate.now ≡ length (parts_of network.now.wires) }
+    ensures told { (failed : List ℕ) → Ends (check_entries network.now certificate.now) failed
         (O.written out.old) (O.written out.new) result }
     ensures cause { (before now : ℕ) (failed : List ℕ) →
         HasEndingCause [] before now failed (O.faults out.old) (O.faults out.new) result }
     ensures unread { WhereUnread result ⊥ }
 {
-    accept(alloc, network, entries)?;
+    accept(alloc, network, certificate)?;
     print(out, b"accepted\n")
 }

@@ -9,6 +9,7 @@ mod checking;
 mod commands;
 mod endings;
 mod evaluation;
+mod fault_refusals;
 mod notice;
 mod part_naming;
 mod recording_refusals;

@@ -8,11 +8,13 @@ ghost use Rattle.net_model.specs.Wires.{parts_of};
 use super::cert_kind::CertError;
 use super::cert_reader::read_certificate;
 use super::endings::Ending;
+use super::fault_refusals::refuse_network;
 use super::part_naming::part_name;
 use super::refusals::{refuse, unread};
-use cert_rules::{Bounds, rejected_part};
+use cert_rules::{Certificate, rejected_part};
 use fx_io::{ReadAllFault, Shelf, read_all};
-use net_model::{Network, ReadFault, read_network};
+use net_model::Network;
+use net_text::{NetError, read_net};
 use std::alloc::Global;
 
 // The most bytes of a network's text and of a certificate's text.
@@ -41,11 +43,10 @@ fn network_of_text(alloc: Global, name: &str, text: &[u8]) -> Result<Network, En
     requires { length text.now < 2 ^ 32 }
     ensures { Makes (λ n. n) (network_in name.now text.now) result }
 {
-    match read_network(alloc, text) {
+    match read_net(alloc, text) {
         Ok(network) => Ok(network),
-        Err(ReadFault::NotBuilt) => Err(refuse(alloc, 3, name.as_bytes(), b": not built")),
-        Err(ReadFault::Fault(_)) => Err(refuse(alloc, 3, name.as_bytes(), b": refused")),
-        Err(ReadFault::OutOfMemory) => Err(Ending::OutOfMemory),
+        Err(NetError::Fault(fault)) => Err(refuse_network(alloc, name, fault)),
+        Err(NetError::OutOfMemory) => Err(Ending::OutOfMemory),
     }
 }
 
@@ -56,13 +57,13 @@ pub(crate) fn certificate_at<S: Shelf>(
     shelf: &mut S,
     name: &str,
     network: &Network,
-) -> Result<Vec<Bounds>, Ending>
+) -> Result<Certificate, Ending>
     ensures told { ForSome (S.files shelf.old)
-        (λ files. Gives vec_items (certificate_read files network.now.wires name.now) result) }
+        (λ files. Gives (λ c. c) (certificate_read files network.now.wires name.now) result) }
     ensures cause { HasStepCause name.now (S.faults shelf.old) (S.faults shelf.new)
         (S.failed shelf.new) result }
     ensures files { S.files shelf.new ≡ S.files shelf.old }
-    ensures complete { IfOk result (λ v. length v.items ≡ length (parts_of network.now.wires)) }
+    ensures complete { IfOk result (λ cert. length cert ≡ length (parts_of network.now.wires)) }
 {
     let text = read_file(alloc, shelf, name, TEXT_LIMIT)?;
     certificate_of_text(alloc, name, network, &text)
@@ -75,13 +76,13 @@ fn certificate_of_text(
     name: &str,
     network: &Network,
     text: &[u8],
-) -> Result<Vec<Bounds>, Ending>
+) -> Result<Certificate, Ending>
     requires { length text.now < 2 ^ 32 }
-    ensures made { Makes vec_items (certificate_in network.now.wires name.now text.now) result }
-    ensures complete { IfOk result (λ v. length v.items ≡ length (parts_of network.now.wires)) }
+    ensures made { Makes (λ c. c) (certificate_in network.now.wires name.now text.now) result }
+    ensures complete { IfOk result (λ cert. length cert ≡ length (parts_of network.now.wires)) }
 {
     match read_certificate(alloc, network, text) {
-        Ok(entries) => Ok(entries),
+        Ok(certificate) => Ok(certificate),
         Err(CertError::Fault(_)) => Err(refuse(alloc, 5, name.as_bytes(), b": refused")),
         Err(CertError::OutOfMemory) => Err(Ending::OutOfMemory),
     }
@@ -89,11 +90,15 @@ fn certificate_of_text(
 
 /// Tests that no part rejects the certificate.
 #[tactic(auto, using(crate::proofs::StepLaws::stops_at_refusal, crate::proofs::RejectedPlaces::rejected_below), unfolding(crate::specs::CheckAnswer::acceptance))]
-pub(crate) fn accept(alloc: Global, network: &Network, entries: &[Bounds]) -> Result<(), Ending>
-    requires { length entries.now ≡ length (parts_of network.now.wires) }
-    ensures { Makes (λ _. tt) (acceptance network.now.wires entries.now) result }
+pub(crate) fn accept(
+    alloc: Global,
+    network: &Network,
+    certificate: &Certificate,
+) -> Result<(), Ending>
+    requires { length certificate.now ≡ length (parts_of network.now.wires) }
+    ensures { Makes (λ _. tt) (acceptance network.now.wires certificate.now) result }
 {
-    match rejected_part(network, entries) {
+    match rejected_part(network, certificate.bounds()) {
         None => Ok(()),
         Some(part) => Err(refuse(alloc, 6, b"not accepted: ", part_name(network, part))),
     }

@@ -2,7 +2,7 @@
 use Rattle.std.proofs.Common.{◌≡◌, ◌+◌, ◌≤◌, length}
 use Rattle.text_words.specs.Lines.{lines_from}
 use Rattle.bench_core.specs.CertificateText.{certificate_of, walked}
-use Rattle.bench_core.proofs.cert_reader.read_certificate.Given as goal
+use Rattle.bench_core.proofs.cert_reader.read_entries.Given as goal
 
 abbrev pub invariant-loop-line : goal.invariant-loop-line
 invariant-loop-line l = record {
