@@ -61,6 +61,6 @@ words_printed net = (codes "net" ∷ codes "1" ∷ []) ∷ (map (wire_words net.
 unfoldable pub text_of : NetData → List ℕ
 text_of net = word_lines (words_printed net)
 
--- a valid network's canonical text is read as the network
-abbrev pub IsReadAgain : Type 0
-IsReadAgain = (net : NetData) → IsValid net → network_of (text_of net) ≡ Ok net
+-- each valid network is read again from its canonical text
+abbrev pub PrintedNetworksAreRead : Type 0
+PrintedNetworksAreRead = (net : NetData) → IsValid net → network_of (text_of net) ≡ Ok net

@@ -4,7 +4,7 @@ ghost use Rattle.std.specs.Fmt.{signed_decimal};
 ghost use Rattle.text_words.specs.Printed.{behind_spaces, spaced, word_lines};
 ghost use Rattle.net_model.specs.Wires.{wire_at};
 ghost use Rattle.net_model.specs.Validity.{item_agrees, takes_block};
-ghost use Rattle.net_text.specs.Printing.{IsReadAgain, argument_words, block_name, kind_word, out_words, point_word, shift_words, text_of, wire_words};
+ghost use Rattle.net_text.specs.Printing.{PrintedNetworksAreRead, argument_words, block_name, kind_word, out_words, point_word, shift_words, text_of, wire_words};
 
 use crate::routine_word::{Routine, arity_of};
 use fx_routines::{Routine as Named, push_name, type_word};
@@ -26,7 +26,7 @@ pub fn print_net(alloc: Global, net: &Network) -> Result<Vec<u8>, AllocError>
 
 /// A valid network is read again from its canonical text.
 pub fn law_of_printing()
-    ensures { IsReadAgain }
+    ensures { PrintedNetworksAreRead }
 {}
 
 // Appends the lines of the wires.
