@@ -22,7 +22,8 @@ pub fn rejected_part(net: &Network, entries: &[Bounds]) -> Option<PartNo>
     }
 }
 
-fn first_unsound(net: &Network, entries: &[Bounds]) -> Option<PartNo>
+/// The first part whose entry isn't sound.
+pub(crate) fn first_unsound(net: &Network, entries: &[Bounds]) -> Option<PartNo>
     requires { length entries.now ≡ length (parts_of net.now.wires) }
     ensures { option_map (λ p. p.0) result
         ≡ first_failing (is_sound_at net.now.wires entries.now) 0 (length (parts_of net.now.wires)) }
