@@ -237,13 +237,14 @@ fn answers_in_the_order_of_refusals(rt: HostRuntime) -> Result<(), Fail> {
 #[test]
 fn answers_where_devices_fail(rt: HostRuntime) -> Result<(), Fail> {
     let alloc = rt.alloc();
-    let words = words(alloc, ["check", "A", "AC"].as_slice())?;
     // A start is call 0, its reads 1 and 2; the second file is started by call 3.
-    for (call, err) in [
-        (0u64, "cannot read A\n"),
-        (1u64, "cannot read A\n"),
-        (3u64, "cannot read AC\n"),
+    for (line, call, err) in [
+        (["check", "A", "AC"].as_slice(), 0u64, "cannot read A\n"),
+        (["check", "A", "AC"].as_slice(), 1u64, "cannot read A\n"),
+        (["check", "A", "AC"].as_slice(), 3u64, "cannot read AC\n"),
+        (["run", "A", "rows"].as_slice(), 3u64, "cannot read rows\n"),
     ] {
+        let words = words(alloc, line)?;
         let failing = vec![in alloc; call]?;
         let mut shelf = MemShelf::new(alloc, files(alloc)?, failing);
         let mut printed = SteadySink::new(alloc);
@@ -256,14 +257,22 @@ fn answers_where_devices_fail(rt: HostRuntime) -> Result<(), Fail> {
         assert!(rt; printed.written().is_empty(), "{err}");
         assert_eq!(rt; said.written(), err.as_bytes(), "{err}");
     }
-    let mut shelf = MemShelf::new(alloc, files(alloc)?, Vec::new(alloc));
-    let mut printed = MemSink::new(alloc, vec![in alloc; 0u64]?);
-    let mut said = MemSink::new(alloc, Vec::new(alloc));
-    assert_eq!(rt;
-        bench(alloc, &words, &mut shelf, &mut printed, &mut said),
-        7
-    );
-    assert_eq!(rt; printed.written(), b"acce".as_slice());
-    assert_eq!(rt; said.written(), b"cannot write\n".as_slice());
+    // Of the bytes of a write that fails, half are written.
+    for (line, out) in [
+        (["check", "A", "AC"].as_slice(), "acce"),
+        (["run", "A", "rows"].as_slice(), "s"),
+    ] {
+        let words = words(alloc, line)?;
+        let mut shelf = SteadyShelf::new(alloc, files(alloc)?);
+        let mut printed = MemSink::new(alloc, vec![in alloc; 0u64]?);
+        let mut said = SteadySink::new(alloc);
+        assert_eq!(rt;
+            bench(alloc, &words, &mut shelf, &mut printed, &mut said),
+            7,
+            "{out}"
+        );
+        assert_eq!(rt; printed.written(), out.as_bytes(), "{out}");
+        assert_eq!(rt; said.written(), b"cannot write\n".as_slice(), "{out}");
+    }
     Ok(())
 }
