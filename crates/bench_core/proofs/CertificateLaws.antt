@@ -9,12 +9,12 @@ use Rattle.net_model.specs.declared.wires.Wire.{Wire}
 use Rattle.net_model.specs.Wires.{NetData, parts_of}
 use Rattle.net_model.specs.Validity.{IsValid}
 use Rattle.net_model.proofs.ValidityFacts.{length-parts_of, length-valid}
-use Rattle.text_words.specs.Steps.{◌>>=◌}
+use Rattle.text_words.specs.Steps.{◌>>=◌, demand}
 use Rattle.cert_rules.specs.declared.bounds.Bounds.{Bounds}
 use Rattle.cert_rules.specs.Proper.{is_entry_number, is_proper_entry, first_improper}
 use Rattle.bench_core.specs.declared.cert_kind.CertKind.{CertKind}
 use Rattle.bench_core.specs.declared.cert_kind.CertKind.TheVariants.{BadLine, WrongPart, BadNumber, EmptyRange, Missing}
-use Rattle.bench_core.specs.CertificateText.{demand, number_within, most, names_next, part_line, located, after_line, ended, walked, is_head, from_head, certificate_of}
+use Rattle.bench_core.specs.CertificateText.{number_within, most, names_next, part_line, located, after_line, ended, walked, is_head, from_head, certificate_of}
 
 -- two steps that give something: the first does, and the second goes on with it
 record Bound {A B E : Type 0} (r : Result A E) (next : A → Result B E) (y : B) : Type 0 where

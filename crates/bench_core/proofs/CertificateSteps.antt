@@ -8,8 +8,8 @@ use Rattle.cert_rules.specs.declared.bounds.Bounds.{Bounds}
 use Rattle.bench_core.specs.declared.cert_kind.CertKind.{CertKind}
 use Rattle.bench_core.specs.declared.cert_kind.CertKind.TheVariants.{Missing}
 use Rattle.bench_core.specs.declared.cert_kind.CertFault.{CertFault}
-use Rattle.bench_core.specs.CertificateText.{demand, located, part_line, after_line, ended, walked, is_head, no_head, from_head, certificate_of}
-use Rattle.text_words.specs.Steps.{◌>>=◌}
+use Rattle.bench_core.specs.CertificateText.{located, part_line, after_line, ended, walked, is_head, no_head, from_head, certificate_of}
+use Rattle.text_words.specs.Steps.{◌>>=◌, demand}
 
 -- ---- up to the head
 

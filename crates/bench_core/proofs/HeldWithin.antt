@@ -5,8 +5,8 @@ use Rattle.text_words.specs.Numbers.{number_of, held}
 use Rattle.text_words.proofs.Held.{held_least, held_most, held_between}
 use Rattle.bench_core.specs.declared.cert_kind.CertKind.{CertKind}
 use Rattle.bench_core.specs.declared.cert_kind.CertKind.TheVariants.{BadNumber}
-use Rattle.bench_core.specs.CertificateText.{demand, number_within}
-use Rattle.text_words.specs.Steps.{◌>>=◌}
+use Rattle.bench_core.specs.CertificateText.{number_within}
+use Rattle.text_words.specs.Steps.{◌>>=◌, demand}
 
 -- the number between two ends, if it is there
 abbrev pub within_from : ℤ → ℤ → Option ℤ → Result ℤ CertKind

@@ -18,9 +18,9 @@ use Rattle.rec_csv.specs.declared.faults.HeadFault.TheVariants.{BadLine as HeadB
 use Rattle.rec_csv.specs.declared.faults.RowFault.TheVariants.{BadLine, BadWidth, BadNumber, OutOfType}
 use Rattle.rec_csv.specs.Fields.{fields_of_line, field_in, trimmed}
 use Rattle.rec_csv.specs.Headers.{HeaderData, header_of, column_of, columns_of, only_place, places_from}
-use Rattle.text_words.specs.Steps.{◌>>=◌}
+use Rattle.text_words.specs.Steps.{◌>>=◌, demand}
 use Rattle.bench_core.specs.RunSteps.{IsHeaderOf}
-use Rattle.rec_csv.specs.Rows.{row_of, values_of, value_of, demand}
+use Rattle.rec_csv.specs.Rows.{row_of, values_of, value_of}
 
 -- what is read where there is none
 abbrev no_number : WireNo

@@ -1,21 +1,16 @@
 -- A certificate's text: the bounds that it says, one entry for each part of the network in their order, or its first
 -- fault. Lines, words and numbers are those of the crate of words; lines without words are skipped, and counted.
-use Rattle.std.specs.Prelude.{ℕ, ◌+◌, ◌^◌, Bool, true, false, ◌&&◌, ◌==◌, nat_lt, int_le, List, [], ◌∷◌, ◌++◌, length, ℤ, pos, neg_ℤ, codes, bytes_eq, ok_or, Result, Ok, Err, if◌then◌else◌}
+use Rattle.std.specs.Prelude.{ℕ, ◌+◌, ◌^◌, Bool, ◌&&◌, ◌==◌, nat_lt, int_le, List, [], ◌∷◌, ◌++◌, length, ℤ, pos, neg_ℤ, codes, bytes_eq, ok_or, Result, Ok, Err, if◌then◌else◌}
 use Rattle.text_words.specs.Lines.{lines_of, nth, words_of}
 use Rattle.text_words.specs.Numbers.{number_of}
 use Rattle.net_model.specs.declared.wires.Wire.{Wire}
 use Rattle.net_model.specs.Wires.{parts_of}
-use Rattle.text_words.specs.Steps.{◌>>=◌}
+use Rattle.text_words.specs.Steps.{◌>>=◌, demand}
 use Rattle.cert_rules.specs.declared.bounds.Bounds.{Bounds}
 use Rattle.bench_core.specs.declared.cert_kind.CertKind.{CertKind}
 use Rattle.bench_core.specs.declared.cert_kind.CertKind.TheVariants.{NoHead, BadLine, WrongPart, BadNumber, EmptyRange, Missing}
 use Rattle.bench_core.specs.declared.cert_kind.CertFault.{CertFault}
 use Rattle.bench_core.specs.PartNames.{part_name}
-
--- the fault, unless the test holds
-abbrev pub demand : Bool → CertKind → Result (Unit {0}) CertKind
-demand true kind = Ok tt
-demand false kind = Err kind
 
 -- a number of a line, which lies between two ends
 unfoldable pub number_within : ℤ → ℤ → List ℕ → Result ℤ CertKind

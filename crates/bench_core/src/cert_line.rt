@@ -1,13 +1,13 @@
 // One line of a certificate: what it gives, or the first of its tests that fails.
 ghost use Rattle.std.specs.Prelude.{◌≡◌, pos, negsuc, ◌-◌, ◌^◌, ◌<ℤ◌};
 ghost use Rattle.text_words.specs.Lines.{words_of};
-ghost use Rattle.bench_core.specs.CertificateText.{demand, names_next, number_within, part_line};
+ghost use Rattle.bench_core.specs.CertificateText.{names_next, number_within, part_line};
 
 use crate::cert_kind::CertKind;
 use crate::part_naming::name_at;
 use cert_rules::Bounds;
 use net_model::Network;
-use text_words::{count_words, number, word_at};
+use text_words::{count_words, demand, number, word_at};
 
 /// What a bound or an error may be at most; a bound is at least the negative of it.
 const FARTHEST: i64 = 1 << 62;
@@ -25,13 +25,6 @@ pub fn part_line(net: &Network, k: usize, line: &[u8]) -> Result<Bounds, CertKin
     let err = number_within(0, FARTHEST, word_at(line, 4))?;
     demand(lo <= hi, CertKind::EmptyRange)?;
     Ok(Bounds { lo, hi, err })
-}
-
-/// The fault, unless the test holds.
-pub fn demand(holds: bool, kind: CertKind) -> Result<(), CertKind>
-    ensures { result ≡ demand holds kind }
-{
-    if holds { Ok(()) } else { Err(kind) }
 }
 
 // Whether the name is that of the part behind the `k` that stand above.

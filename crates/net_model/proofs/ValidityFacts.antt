@@ -5,11 +5,16 @@ use Rattle.std.specs.List.{list_any, list_all}
 use Rattle.std.proofs.lemmas.Bool.{and_parts}
 use Rattle.std.proofs.lemmas.Int.{ints}
 use Rattle.text_words.specs.Names.{is_name}
+use denote.Enum.Bare.{same_true}
+use Rattle.fx_core.specs.contracts.word_type.Ty.{the_type}
 use Rattle.fx_core.specs.declared.word_type.Ty.{Ty}
 use Rattle.fx_routines.specs.declared.operation.ArithOp.{ArithOp}
 use Rattle.fx_routines.specs.declared.operation.ArithOp.TheVariants.{Abs, MulDiv, Limit, Min, Max, RateLimiter}
 use Rattle.fx_routines.specs.declared.operation.Variant.{Variant}
+use Rattle.fx_routines.specs.declared.table.Routine.TheVariants as routine
+use Rattle.fx_routines.specs.Names.{takes}
 use Rattle.mfx_arith.specs.Operations.{Takes, argument_types}
+use Rattle.mfx_arith.proofs.TypesTaken.{taken}
 use Rattle.fx_routines.specs.declared.operation.ScaledOp.{ScaledOp}
 use Rattle.fx_routines.specs.declared.operation.ScaledOp.TheVariants.{Convert}
 use Rattle.net_model.specs.declared.wires.WireNo.{WireNo}
@@ -24,10 +29,9 @@ use Rattle.net_model.specs.declared.wires.Role.{Role}
 use Rattle.net_model.specs.declared.wires.Role.TheVariants.{Value}
 use Rattle.net_model.specs.declared.wires.Part.{Part}
 use Rattle.net_model.specs.Wires.{NetData, wire_at, no_wire, kind_least, kind_greatest, point_of, argument_of, is_input, roles_of, parts_from, parts_of, no_part, place_in, has_role, part_number}
-use Rattle.net_model.specs.Built.{is_built, is_shift, takes_scaled}
+use Rattle.net_model.specs.Built.{is_built, is_shift}
 use Rattle.mfx_scaled.specs.Operations.{argument_types as scaled_types}
 use Rattle.net_model.specs.Validity.{is_good_kind, kind_holds, is_number_of, type_read, is_earlier, is_given, reads_earlier, are_given, is_built_item, item_reads_earlier, item_agrees, item_in_range, is_good_wire, are_good_from, are_distinct, are_distinct_numbers, is_valid, IsValid}
-use Rattle.net_model.proofs.BuiltFacts.{same_ty-true, takes_from_test}
 
 -- the conditions, one by one
 pub record Conditions (net : NetData) : Type 0 where
@@ -139,7 +143,7 @@ const-valid net i value h lt e = in_kind _ _ (good_item-valid net i (Const value
 
 -- a wire of a type is a number wire
 pub number_kind : (ty : Ty) (kind : Kind) → is_number_of ty kind ≡ true → (point : ℕ) × (kind ≡ Num ty point)
-number_kind ty (Num t point) h = (point, ap (λ u. Num u point) (sym (same_ty-true ty t h)))
+number_kind ty (Num t point) h = (point, ap (λ u. Num u point) (sym (same_true the_type tt ty t h)))
 number_kind ty Truth h = absurd (true≢false (sym h))
 
 -- an argument is an earlier wire of its type
@@ -214,7 +218,7 @@ good_arith wires i name kind op v x y z sh h =
     let x_below = first_earlier wires i op v x args.first in
     record {
       built = h.built;
-      taken = takes_from_test op v a2.0;
+      taken = (taken op v).0 a2.0;
       first = args.first;
       second = args.second;
       third = args.third;
@@ -230,7 +234,7 @@ arith-valid net i op v x y z sh h lt e = good_arith _ _ _ _ op _ _ _ _ _ (good_i
 
 -- a block with binary points, likewise
 pub record IsGoodScaled (wires : List Wire) (i : ℕ) (kind : Kind) (op : ScaledOp) (v : Variant) (x y : WireNo) : Type 0 where
-  pub taken : takes_scaled op v ≡ true
+  pub taken : takes (routine.Scaled op) v ≡ true
   pub first : IsGiven wires i x (slice_get (scaled_types op v) 0) x
   pub second : IsGiven wires i x (slice_get (scaled_types op v) 1) y
   pub earlier_x : x.0 < i

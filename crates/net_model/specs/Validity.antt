@@ -3,6 +3,9 @@ use Rattle.std.specs.Prelude.{ℕ, ◌+◌, Bool, true, false, not, ◌&&◌, Li
 use Rattle.std.specs.List.{list_any, list_all}
 use Rattle.text_words.specs.Names.{is_name}
 use Rattle.fx_core.specs.declared.word_type.Ty.{Ty}
+use Rattle.fx_routines.specs.declared.table.Routine.TheVariants as routine
+use Rattle.fx_routines.specs.Names.{takes}
+use Rattle.fx_routines.specs.Variants.{same_type}
 use Rattle.mfx_arith.specs.Operations.{argument_types}
 use Rattle.net_model.specs.declared.wires.Kind.{Kind}
 use Rattle.net_model.specs.declared.wires.Kind.TheVariants.{Num, Truth}
@@ -12,7 +15,7 @@ use Rattle.net_model.specs.declared.wires.Item.{Item}
 use Rattle.net_model.specs.declared.wires.Item.TheVariants.{Input, Const, Block as OfBlock}
 use Rattle.net_model.specs.declared.wires.Wire.{Wire}
 use Rattle.mfx_scaled.specs.Operations.{argument_types as scaled_types}
-use Rattle.net_model.specs.Built.{is_built, same_ty, takes_types, is_shift, takes_scaled}
+use Rattle.net_model.specs.Built.{is_built, is_shift}
 use Rattle.net_model.specs.Wires.{NetData, wire_at, kind_least, kind_greatest, argument_of, is_input}
 
 -- a binary point is at most 15
@@ -26,7 +29,7 @@ kind_holds kind v = int_le (kind_least kind) v && int_le v (kind_greatest kind)
 
 -- a number wire of a type
 abbrev pub is_number_of : Ty → Kind → Bool
-is_number_of ty (Num t point) = same_ty ty t
+is_number_of ty (Num t point) = same_type ty t
 is_number_of ty Truth = false
 
 -- ---- blocks, one equation a family
@@ -41,10 +44,10 @@ abbrev pub types_read : Block → List Ty
 types_read (Arith op v x y z sh) = argument_types op v
 types_read (Scaled op v x y) = scaled_types op v
 
--- there is a routine of the block's types
+-- there is a routine of the block's types: a row of the table of names
 abbrev pub takes_block : Block → Bool
-takes_block (Arith op v x y z sh) = takes_types op v
-takes_block (Scaled op v x y) = takes_scaled op v
+takes_block (Arith op v x y z sh) = takes (routine.Arith op) v
+takes_block (Scaled op v x y) = takes (routine.Scaled op) v
 
 -- the type that a block gives
 abbrev pub type_given : Block → Ty
@@ -139,5 +142,6 @@ most_wires = 512
 unfoldable pub is_valid : NetData → Bool
 is_valid net = nat_le (length net.wires) most_wires && are_distinct (map (λ w. w.name) net.wires) && are_good_from net.wires 0 net.wires && list_all (λ o. nat_lt o.0 (length net.wires)) net.outs && are_distinct_numbers (map (λ o. o.0) net.outs) && list_any (λ w. is_input w.item) net.wires && nat_lt 0 (length net.outs)
 
+-- the network passes these tests
 abbrev pub IsValid : NetData → Type 0
 IsValid net = IsTrue (is_valid net)

@@ -1,12 +1,12 @@
-// Which operations of Mfx arithmetic are built, and what their routines take.
+// Which operations of Mfx arithmetic are built, and what routines are given.
 
 ghost use Rattle.std.specs.Prelude.{◌≡◌, slice_get};
 ghost use Rattle.mfx_arith.specs.Operations.{argument_types, unsigned_of};
-ghost use Rattle.net_model.specs.Built.{has_shift, is_built, is_shift, same_ty, takes_scaled, takes_types};
+ghost use Rattle.net_model.specs.Built.{has_shift, is_built, is_shift};
 ghost use Rattle.mfx_scaled.specs.Operations.{argument_types as scaled_types};
 
 use fx_core::Ty;
-use mfx_arith::{ArithOp, Variant, takes};
+use mfx_arith::{ArithOp, Variant};
 use mfx_scaled::ScaledOp;
 
 /// The greatest count of places that a routine shifts by.
@@ -25,13 +25,6 @@ pub fn is_built(op: ArithOp) -> bool
     ensures { result ≡ is_built op }
 {
     !matches!(op, ArithOp::Mod)
-}
-
-/// Whether there is a routine of the operation at these types.
-pub fn takes_types(op: ArithOp, v: Variant) -> bool
-    ensures { result ≡ takes_types op v }
-{
-    takes(op, v)
 }
 
 /// The types of the arguments of an operation's routine.
@@ -83,23 +76,6 @@ pub fn is_shift(op: ArithOp, sh: u8) -> bool
     match op {
         ArithOp::MulShRight | ArithOp::DivShLeft => sh <= GREATEST_SHIFT,
         _ => sh == 0,
-    }
-}
-
-/// Whether two types are the same.
-pub fn same_ty(one: Ty, other: Ty) -> bool
-    ensures { result ≡ same_ty one other }
-{
-    one == other
-}
-
-/// Whether a form with binary points has a routine at these types.
-pub fn takes_scaled(op: ScaledOp, v: Variant) -> bool
-    ensures { result ≡ takes_scaled op v }
-{
-    match op {
-        ScaledOp::Convert => same_ty(v.x, v.y),
-        _ => v.x.width() == v.y.width(),
     }
 }
 

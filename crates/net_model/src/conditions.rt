@@ -4,12 +4,10 @@ ghost use Rattle.std.specs.Prelude.{◌≡◌};
 ghost use Rattle.net_model.specs.Wires.{argument_of, wire_at};
 ghost use Rattle.net_model.specs.Validity.{agrees, are_given, has_good_numbers, is_built_block, is_earlier, is_given, is_good_kind, is_number_of, kind_holds, reads_earlier, takes_block, type_given, type_read};
 
-use crate::built::{
-    ArgumentTypes, argument_types, is_built, is_shift, same_ty, scaled_types, takes_scaled,
-    takes_types,
-};
+use crate::built::{ArgumentTypes, argument_types, is_built, is_shift, scaled_types};
 use crate::wires::{Block, Kind, Wire, WireNo};
 use fx_core::Ty;
+use fx_routines::{Routine, takes};
 
 // The greatest binary point.
 const GREATEST_POINT: u8 = 15;
@@ -61,8 +59,8 @@ fn takes_block(block: Block) -> bool
     ensures { result ≡ takes_block block }
 {
     match block {
-        Block::Arith { op, v, .. } => takes_types(op, v),
-        Block::Scaled { op, v, .. } => takes_scaled(op, v),
+        Block::Arith { op, v, .. } => takes(Routine::Arith(op), v),
+        Block::Scaled { op, v, .. } => takes(Routine::Scaled(op), v),
     }
 }
 
@@ -145,7 +143,7 @@ fn is_number_of(ty: Ty, kind: Kind) -> bool
     ensures { result ≡ is_number_of ty kind }
 {
     match kind {
-        Kind::Num(number, _) => same_ty(ty, number),
+        Kind::Num(number, _) => ty == number,
         Kind::Truth => false,
     }
 }

@@ -13,6 +13,7 @@ use crate::conditions::{
 };
 use crate::network::{Draft, NetKind};
 use crate::wires::{Item, Kind, Wire, WireNo};
+use text_words::demand;
 
 /// How many wires a network may have.
 pub const MOST_WIRES: usize = 512;
@@ -79,12 +80,6 @@ fn check_wire(wires: &[Wire], i: usize) -> Result<(), NetKind>
         NetKind::OutOfRange,
     )?;
     has_room(i)
-}
-
-fn demand(holds: bool, kind: NetKind) -> Result<(), NetKind>
-    ensures { result ≡ demand holds kind }
-{
-    if holds { Ok(()) } else { Err(kind) }
 }
 
 // Whether there is room for one more wire behind so many.

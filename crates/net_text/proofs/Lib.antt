@@ -11,4 +11,3 @@ mod PrintedPieces
 mod PrintedRoutines
 mod PrintedText
 mod PrintedWires
-mod ScaledTypes

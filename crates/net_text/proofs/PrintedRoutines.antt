@@ -5,8 +5,6 @@ use Rattle.std.proofs.lemmas.Bool.{and_parts}
 use Rattle.text_words.specs.Printed.{is_printed, is_word}
 use Rattle.text_words.proofs.PrintedWords.{printed-append, printed-word, is_word-append}
 use Rattle.fx_core.specs.declared.word_type.Ty.{Ty}
-use Rattle.fx_routines.specs.declared.operation.ArithOp.{ArithOp}
-use Rattle.fx_routines.specs.declared.operation.ScaledOp.{ScaledOp}
 use Rattle.fx_routines.specs.declared.operation.Variant.{Variant}
 use Rattle.fx_routines.specs.declared.table.Part.{Part}
 use Rattle.fx_routines.specs.declared.table.Part.TheVariants as part
@@ -16,17 +14,13 @@ use Rattle.fx_routines.specs.Rows.{Row, rows, front_of, parts_of}
 use Rattle.fx_routines.specs.Names.{type_word, part_word, words, takes, routine_name, IsNameOf}
 use Rattle.fx_routines.specs.Reading.{named}
 use Rattle.fx_routines.proofs.NameLaws.{named_gives, taken_names}
-use Rattle.mfx_arith.proofs.TypesTaken.{taken}
 use Rattle.net_model.specs.declared.wires.Block.{Block}
 use Rattle.net_model.specs.declared.wires.Block.TheVariants.{Arith, Scaled}
-use Rattle.net_model.specs.Built.{takes_types, takes_scaled}
 use Rattle.net_model.specs.Validity.{is_built_block, takes_block}
-use Rattle.net_model.proofs.BuiltFacts.{takes_from_test}
 use Rattle.net_text.specs.RoutineWords.{routine_at}
 use Rattle.net_text.specs.Printing.{block_name}
 use Rattle.net_text.proofs.PrintedKinds.{is_word-type_word}
 use Rattle.net_text.proofs.PrintedWires.{routine_of_block}
-use Rattle.net_text.proofs.ScaledTypes.{scaled_taken}
 
 -- ---- names are words
 
@@ -70,23 +64,14 @@ is_word-name_of routine v word n =
 named-routine_name : (routine : Named) (v : Variant) → takes routine v ≡ true → named (routine_name routine v) ≡ Some (routine, v)
 named-routine_name routine v take = (taken_names routine v).0 take
 
-pub arith_takes : (op : ArithOp) (v : Variant) → takes_types op v ≡ true → takes (NamedArith op) v ≡ true
-arith_takes op v test = (taken op v).1 (takes_from_test op v test)
-
-arith_named : (op : ArithOp) (v : Variant) → takes_types op v ≡ true → named (routine_name (NamedArith op) v) ≡ Some (NamedArith op, v)
-arith_named op v test = named-routine_name (NamedArith op) v (arith_takes op v test)
-
-scaled_named : (op : ScaledOp) (v : Variant) → takes_scaled op v ≡ true → named (routine_name (NamedScaled op) v) ≡ Some (NamedScaled op, v)
-scaled_named op v test = named-routine_name (NamedScaled op) v (scaled_taken op v test)
-
 -- the name is a word
 pub is_word-block_name : (b : Block) → takes_block b ≡ true → is_word (block_name b) ≡ true
 unfolding block_name
-is_word-block_name (Arith op v x y z sh) test = is_word-name_of (NamedArith op) v (routine_name (NamedArith op) v) (named_gives (routine_name (NamedArith op) v) (NamedArith op) v (arith_named op v test))
-is_word-block_name (Scaled op v x y) test = is_word-name_of (NamedScaled op) v (routine_name (NamedScaled op) v) (named_gives (routine_name (NamedScaled op) v) (NamedScaled op) v (scaled_named op v test))
+is_word-block_name (Arith op v x y z sh) test = is_word-name_of (NamedArith op) v (routine_name (NamedArith op) v) (named_gives (routine_name (NamedArith op) v) (NamedArith op) v (named-routine_name (NamedArith op) v test))
+is_word-block_name (Scaled op v x y) test = is_word-name_of (NamedScaled op) v (routine_name (NamedScaled op) v) (named_gives (routine_name (NamedScaled op) v) (NamedScaled op) v (named-routine_name (NamedScaled op) v test))
 
 -- and is read as the routine
 pub routine_at-block_name : (b : Block) → is_built_block b ≡ true → takes_block b ≡ true → routine_at (block_name b) ≡ Ok (routine_of_block b)
 unfolding routine_at block_name
-routine_at-block_name (Arith op v x y z sh) built test = rw (arith_named op v test, built) refl
-routine_at-block_name (Scaled op v x y) built test = rw (scaled_named op v test) refl
+routine_at-block_name (Arith op v x y z sh) built test = rw (named-routine_name (NamedArith op) v test, built) refl
+routine_at-block_name (Scaled op v x y) built test = rw (named-routine_name (NamedScaled op) v test) refl

@@ -53,12 +53,12 @@ routines = (refl, refl, refl)
 -- an argument that no line defines, one that this line defines, one that a line below defines, one of another type,
 -- and a type that no block gives
 arguments : HasFaultBelow (codes "wire y s16 = Mfx_Add_s16s16_s16 x z\n") UnknownName × HasFaultBelow (codes "wire y s16 = Mfx_Add_s16s16_s16 x y\n") LaterWire × HasFaultBelow (codes "wire y s16 = Mfx_Add_s16s16_s16 z x\naxis z\n") LaterWire × HasFaultBelow (codes "wire y s16 = Mfx_Add_s8s8_s16 x x\n") TypeDiffers × HasFaultBelow (codes "wire y dp:x = Mfx_ConvertP2_s16_s16 x\n") TypeDiffers
-unfolding network_of from_head lines_of lines_from words_of walked after_line after_definition keyword_of defining_line line_of in_line wire_line fresh place_of is_known is_defined arguments_of agreed range_of kind_of number_kind_of point_of_word is_position routine_at named rows row_named read_parts read_part read_first read_second read_output read_word first_type after is_name number_of
+unfolding network_of from_head lines_of lines_from words_of walked after_line after_definition keyword_of defining_line line_of in_line wire_line fresh place_of is_known is_defined arguments_of agreed range_of kind_of number_kind_of point_of_word is_position routine_at named rows row_of row_named read_parts read_part read_first read_second read_output read_word first_type after is_name number_of
 arguments = (refl, refl, refl, refl, refl)
 
 -- a count of places that is no number, and one above 15; an empty range; and no output, told at the last line
 numbers : HasFaultBelow (codes "wire y s16 = Mfx_MulShRight_s16s16u8_s16 x x x\n") BadNumber × HasFaultBelow (codes "wire y s16 = Mfx_MulShRight_s16s16u8_s16 x x 16\n") OutOfRange × HasFaultBelow (codes "in y s16 5 4\n") OutOfRange × HasFaultBelow (codes "\n") Missing
-unfolding network_of from_head lines_of lines_from words_of walked after_line after_definition keyword_of defining_line line_of in_line wire_line fresh place_of is_known is_defined arguments_of shift_of places_at agreed range_of kind_of number_kind_of point_of_word is_position routine_at named rows row_named read_parts read_part read_first read_second read_output read_word first_type after is_name number_of ended
+unfolding network_of from_head lines_of lines_from words_of walked after_line after_definition keyword_of defining_line line_of in_line wire_line fresh place_of is_known is_defined arguments_of shift_of places_at agreed range_of kind_of number_kind_of point_of_word is_position routine_at named rows row_of row_named read_parts read_part read_first read_second read_output read_word first_type after is_name number_of ended
 numbers = (refl, refl, refl, refl)
 
 -- a good one
@@ -74,7 +74,7 @@ summed = record {
 }
 
 good_text : network_of (codes "net 1 # a sum\n\nin x s16 0 4\nconst k s16.07 -3\nwire y s32 = Mfx_Add_s16s16_s32 x k\nwire z s16.12 = Mfx_ConvertP2_s32_s16 y\nout z\nout y\n") ≡ Ok summed
-unfolding network_of from_head lines_of lines_from words_of walked after_line after_out after_definition keyword_of defining_line line_of in_line const_line wire_line out_line fresh place_of is_known is_defined arguments_of shift_of places_at agreed range_of value_of kind_of number_kind_of point_of_word is_position routine_at named rows row_named read_parts read_part read_first read_second read_output read_word first_type after is_name number_of ended
+unfolding network_of from_head lines_of lines_from words_of walked after_line after_out after_definition keyword_of defining_line line_of in_line const_line wire_line out_line fresh place_of is_known is_defined arguments_of shift_of places_at agreed range_of value_of kind_of number_kind_of point_of_word is_position routine_at named rows row_of row_named read_parts read_part read_first read_second read_output read_word first_type after is_name number_of ended
 good_text = refl
 
 -- and its canonical text

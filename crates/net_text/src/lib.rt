@@ -6,13 +6,8 @@ mod definitions;
 mod keyword;
 mod line_forms;
 mod printing;
-#[cfg(test)]
-mod printing_tests;
 mod reader;
 mod routine_word;
-mod steps;
-#[cfg(test)]
-mod tests;
 mod type_word;
 
 pub use printing::{law_of_printing, print_net};

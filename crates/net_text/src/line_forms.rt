@@ -12,14 +12,13 @@ use crate::keyword::{Keyword, keyword_of};
 use crate::routine_word::{
     Arguments, Routine, arity_of, block_of, is_shifting, routine_at, types_of,
 };
-use crate::steps::demand;
 use crate::type_word::{axis_name, is_position, kind_of, ty_of};
 use fx_core::Ty;
 use net_model::{
     Block, GREATEST_SHIFT, Item, Kind, MOST_WIRES, NetKind, Wire, WireNo, agrees, is_range,
     kind_holds,
 };
-use text_words::{count_words, is_name, number, word_at};
+use text_words::{count_words, demand, is_name, number, word_at};
 
 // The place of a routine's first argument, behind `wire NAME TYPE = ROUTINE`.
 const FIRST_ARGUMENT: usize = 5;

@@ -143,7 +143,7 @@ fn push_front(text: &mut Vec<u8>, keyword: &[u8], name: &[u8], kind: Kind) -> Re
 }
 
 // Appends the name of a block's routine behind an equals sign.
-#[tactic(auto, using(crate::proofs::PrintedRoutines::arith_takes, crate::proofs::ScaledTypes::scaled_taken), unfolding(crate::specs::Printing::block_name))]
+#[tactic(auto, unfolding(crate::specs::Printing::block_name))]
 fn push_routine(text: &mut Vec<u8>, block: Block) -> Result<(), AllocError>
     requires { takes_block block ≡ true }
     ensures { OnOk result (text.new.items ≡ text.old.items ++ behind_spaces (codes "=" ∷ block_name block ∷ [])) }

@@ -15,8 +15,8 @@ use Rattle.rec_csv.specs.declared.columns.Column.{Column}
 use Rattle.rec_csv.specs.declared.faults.RowFault.{RowFault}
 use Rattle.rec_csv.specs.declared.faults.RowFault.TheVariants.{BadNumber, OutOfType}
 use Rattle.rec_csv.specs.Fields.{trimmed}
-use Rattle.text_words.specs.Steps.{◌>>=◌}
-use Rattle.rec_csv.specs.Rows.{demand, value_of}
+use Rattle.text_words.specs.Steps.{◌>>=◌, demand}
+use Rattle.rec_csv.specs.Rows.{value_of}
 
 -- the ends of a kind lie within 64 bits
 abbrev Ends : ℤ → ℤ → Type 0

@@ -1,18 +1,13 @@
 -- The rows of a recording: the inputs' values.
-use Rattle.std.specs.Prelude.{ℕ, ◌≡◌, take, ⊤, Bool, true, false, List, [], ◌∷◌, length, nat_le, ℤ, Option, Some, None, ok_or, Result, Ok, Err}
+use Rattle.std.specs.Prelude.{ℕ, ◌≡◌, take, ⊤, List, [], ◌∷◌, length, nat_le, ℤ, Option, Some, None, ok_or, Result, Ok, Err}
 use Rattle.text_words.specs.Numbers.{number_of}
 use Rattle.net_model.specs.Validity.{kind_holds}
-use Rattle.text_words.specs.Steps.{◌>>=◌}
+use Rattle.text_words.specs.Steps.{◌>>=◌, demand}
 use Rattle.rec_csv.specs.declared.faults.RowFault.{RowFault}
 use Rattle.rec_csv.specs.declared.faults.RowFault.TheVariants.{BadLine, BadWidth, BadNumber, OutOfType, OutOfMemory}
 use Rattle.rec_csv.specs.declared.columns.Column.{Column}
 use Rattle.rec_csv.specs.Fields.{fields_of_line, field_in, trimmed}
 use Rattle.rec_csv.specs.Headers.{HeaderData}
-
--- the fault, unless the test holds
-abbrev pub demand : Bool → RowFault → Result (Unit {0}) RowFault
-demand true fault = Ok tt
-demand false fault = Err fault
 
 -- the value of an input whose field is this one
 unfoldable pub value_of : Column → List ℕ → Result ℤ RowFault

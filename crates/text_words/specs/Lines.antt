@@ -7,12 +7,14 @@ use Rattle.std.specs.Str.Lines.{strip_carriage_return}
 abbrev pub pieces : (ℕ → Bool) → List ℕ → List (List ℕ)
 pieces cuts bytes = slice_split cuts bytes
 
+-- there is no byte
 abbrev pub is_empty : List ℕ → Bool
 is_empty [] = true
 is_empty (byte ∷ bytes) = false
 
 -- ---- lines
 
+-- the byte that ends a line
 abbrev pub is_line_feed : ℕ → Bool
 is_line_feed byte = byte == 10
 

@@ -1,14 +1,17 @@
-// Lines, words, numbers and names of the two small texts that are read line by line: a network's and a certificate's.
+// Lines, words, numbers and names of the two small texts that are read line by line: a network's and a certificate's;
+// and a test, or else a fault.
 #![tactic(auto)]
 
 mod line_cutter;
 mod line_words;
 mod name_rule;
 mod number_reader;
+mod steps;
 mod word_cutter;
 
 pub use line_cutter::{next_line, without_mark};
 pub use line_words::{count_words, word_at};
 pub use name_rule::is_name;
 pub use number_reader::number;
+pub use steps::demand;
 pub use word_cutter::next_word;
