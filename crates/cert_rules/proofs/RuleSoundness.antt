@@ -14,7 +14,7 @@ use Rattle.fx_routines.specs.declared.operation.Variant.{Variant}
 use Rattle.mfx_arith.specs.Formulas.{arith_formula, quotient_of as arith_quotient}
 use Rattle.net_model.specs.declared.wires.WireNo.{WireNo}
 use Rattle.fx_routines.specs.declared.operation.ScaledOp.{ScaledOp}
-use Rattle.mfx_scaled.specs.declared.operation.Points.{Points}
+use Rattle.mfx_scaled.specs.declared.binary_points.Points.{Points}
 use Rattle.mfx_scaled.specs.Formulas.{scaled_formula, quotient_of as scaled_quotient}
 use Rattle.net_model.specs.declared.wires.Kind.{Kind}
 use Rattle.net_model.specs.declared.wires.Block.{Block}

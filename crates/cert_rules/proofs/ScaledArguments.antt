@@ -6,7 +6,7 @@ use Rattle.fx_fraction.specs.Fraction.{whole}
 use Rattle.fx_fraction.proofs.WholeNumbers.{int_le_trans}
 use Rattle.fx_routines.specs.declared.operation.ScaledOp.{ScaledOp}
 use Rattle.fx_routines.specs.declared.operation.ScaledOp.TheVariants.{Convert, Div}
-use Rattle.mfx_scaled.specs.declared.operation.Points.{Points}
+use Rattle.mfx_scaled.specs.declared.binary_points.Points.{Points}
 use Rattle.cert_rules.specs.declared.bounds.Bounds.{Bounds}
 use Rattle.cert_rules.specs.Entries.{IsSmall}
 use Rattle.cert_rules.specs.ScaledRules.{scaled_bounds, scaled_may_divide_by_zero, scaled_values}

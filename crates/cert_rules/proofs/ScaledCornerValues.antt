@@ -3,7 +3,7 @@ use Rattle.std.specs.Prelude.{◌≡◌, ℕ, ◌+◌, ◌-◌, ◌≤◌, ℤ, 
 use Rattle.std.proofs.Common.{sym, ◌∙◌, arith}
 use Rattle.fx_core.specs.Rounding.{power}
 use Rattle.fx_routines.specs.declared.operation.ScaledOp.TheVariants.{Convert, Add, Sub, AbsDiff, Mul, Div}
-use Rattle.mfx_scaled.specs.declared.operation.Points.{Points}
+use Rattle.mfx_scaled.specs.declared.binary_points.Points.{Points}
 use Rattle.mfx_scaled.specs.Counts.{raised}
 use Rattle.mfx_scaled.proofs.Shifts.{convert_at, difference_at, distance_at, product_at, quotient_at, sum_at}
 use Rattle.cert_rules.specs.ScaledRules.{highest}

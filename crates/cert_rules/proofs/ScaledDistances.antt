@@ -8,7 +8,7 @@ use Rattle.fx_fraction.proofs.Distances.{error_bound, bound_of_error}
 use Rattle.fx_fraction.proofs.Order.{Same_sym}
 use Rattle.fx_core.specs.Rounding.{power}
 use Rattle.mfx_arith.proofs.WholeNumbers.{plus-whole, minus-whole, absolute-whole}
-use Rattle.mfx_scaled.specs.declared.operation.Points.{Points}
+use Rattle.mfx_scaled.specs.declared.binary_points.Points.{Points}
 use Rattle.mfx_scaled.specs.Counts.{raised}
 use Rattle.mfx_scaled.specs.Formulas.{point_factor}
 use Rattle.mfx_scaled.proofs.Shifts.{convert_shifted, sum_shifted, difference_shifted, distance_shifted}

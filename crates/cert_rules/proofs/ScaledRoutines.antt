@@ -13,7 +13,7 @@ use Rattle.fx_core.specs.Values.{rounded_fraction}
 use Rattle.fx_core.proofs.RoundingLaws.{int_div_order}
 use Rattle.fx_routines.specs.declared.operation.ScaledOp.{ScaledOp}
 use Rattle.fx_routines.specs.declared.operation.ScaledOp.TheVariants.{Convert, Add, Sub, AbsDiff, Mul, Div}
-use Rattle.mfx_scaled.specs.declared.operation.Points.{Points}
+use Rattle.mfx_scaled.specs.declared.binary_points.Points.{Points}
 use Rattle.mfx_scaled.specs.Counts.{raised}
 use Rattle.mfx_scaled.specs.Formulas.{point_factor, scaled_formula}
 use Rattle.mfx_scaled.proofs.Shifts.{convert_at, difference_at, distance_at, product_at, quotient_at, quotient_shifted, sum_at}

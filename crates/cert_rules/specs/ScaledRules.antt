@@ -7,7 +7,7 @@ use Rattle.fx_core.specs.Rounding.{least_quotient_above, power}
 use Rattle.fx_core.specs.Values.{rounded_fraction}
 use Rattle.fx_routines.specs.declared.operation.ScaledOp.{ScaledOp}
 use Rattle.fx_routines.specs.declared.operation.ScaledOp.TheVariants.{Convert, Add, Sub, AbsDiff, Mul, Div}
-use Rattle.mfx_scaled.specs.declared.operation.Points.{Points}
+use Rattle.mfx_scaled.specs.declared.binary_points.Points.{Points}
 use Rattle.mfx_scaled.specs.Counts.{raised}
 use Rattle.mfx_scaled.specs.Formulas.{scaled_formula}
 use Rattle.cert_rules.specs.declared.bounds.Bounds.{Bounds}

@@ -2,7 +2,7 @@
 use Rattle.std.specs.Prelude.{◌≡◌, ℕ, ◌<◌, false, ℤ, IfSome}
 use Rattle.fx_fraction.specs.Fraction.{Fraction, whole, is_zero}
 use Rattle.fx_routines.specs.declared.operation.ScaledOp.{ScaledOp}
-use Rattle.mfx_scaled.specs.declared.operation.Points.{Points}
+use Rattle.mfx_scaled.specs.declared.binary_points.Points.{Points}
 use Rattle.mfx_scaled.specs.Formulas.{scaled_formula, quotient_of}
 use Rattle.cert_rules.specs.declared.bounds.Bounds.{Bounds}
 use Rattle.cert_rules.specs.Certificates.{IsWithin}

@@ -3,7 +3,7 @@ use Rattle.std.proofs.Common.{◌≡◌, ℕ, ℤ, refl}
 use Rattle.fx_fraction.specs.Fraction.{whole}
 use Rattle.fx_routines.specs.declared.operation.ScaledOp.{ScaledOp}
 use Rattle.fx_routines.specs.declared.operation.ScaledOp.TheVariants.{Add}
-use Rattle.mfx_scaled.specs.declared.operation.Points.{Points}
+use Rattle.mfx_scaled.specs.declared.binary_points.Points.{Points}
 use Rattle.mfx_scaled.specs.Calls.{two_given}
 use Rattle.mfx_scaled.specs.Formulas.{quotient_of, scaled_formula}
 

@@ -7,7 +7,7 @@ use Rattle.std.proofs.lemmas.Bool.{cases_lt}
 use Rattle.std.proofs.lemmas.Int.{ints, to_z-of_z}
 use Rattle.fx_fraction.specs.Fraction.{Fraction, denom, whole, times, divided, is_zero, Is}
 use Rattle.fx_fraction.proofs.Denominators.{is_absolute, is_divided_signed, is_minus, is_plus, is_whole, not_zero_out, zero_in, zero_out}
-use Rattle.fx_fraction.proofs.WholeNumbers.{int_add-mul, int_sub-mul, int_le_refl, unsigned_abs-mul_pos, with_sign}
+use Rattle.fx_fraction.proofs.WholeNumbers.{int_le_refl, with_sign}
 use Rattle.fx_core.specs.declared.quotient.Mode.TheVariants.{Zero}
 use Rattle.fx_core.specs.declared.word_type.Ty.{Ty}
 use Rattle.fx_core.specs.Types.{greatest_of, least_of, saturated}
@@ -19,7 +19,7 @@ use Rattle.mfx_arith.specs.Calls.{value_in}
 use Rattle.mfx_arith.specs.Integers.{quotient_in}
 use Rattle.mfx_arith.proofs.WholeNumbers.{quotient-by_other, quotient-by_zero, whole_in-saturated}
 use Rattle.fx_routines.specs.declared.operation.ScaledOp.TheVariants.{Convert, Add, Sub, AbsDiff, Mul, Div}
-use Rattle.mfx_scaled.specs.declared.operation.Points.{Points}
+use Rattle.mfx_scaled.specs.declared.binary_points.Points.{Points}
 use Rattle.mfx_scaled.specs.Calls.{scaled_value}
 use Rattle.mfx_scaled.specs.Counts.{count_in, raised}
 use Rattle.mfx_scaled.specs.Formulas.{point_factor}
@@ -91,47 +91,53 @@ pub count_in-shifted : (t : Ty) (n : ℤ) (a c : ℕ) → count_in t n a c ≡ s
 unfolding count_in value_in
 count_in-shifted t n a c = ap (saturated t) (sym (shifted-is n a c))
 
+-- a count is stored at a lower point without its last digits, and as it is where it was raised to the point
+pub count_in-lowered : (t : Ty) (n : ℤ) (a c : ℕ) → c ≤ a → count_in t n a c ≡ saturated t (int_div n (power (a - c)))
+unfolding count_in value_in
+count_in-lowered t n a c h = ap (saturated t) (rounded_down n a c h)
+
+pub count_in-raised : (t : Ty) (n : ℤ) (a c : ℕ) → a ≤ c → count_in t (raised n a c) c c ≡ count_in t n a c
+unfolding count_in value_in
+count_in-raised t n a c h = ap (saturated t) (rounded_up (raised n a c) c c (omega arith) ∙ raised_twice n a c c h (omega arith) ∙ sym (rounded_up n a c h))
+
 -- ---- sums
 
+-- a count at a point that c isn't above, over a power of two
+is_lowered : (n : ℤ) (m c : ℕ) → c ≤ m → Is (times (whole n) (point_factor m c)) (2 ^ (m - c)) n
+is_lowered n m c h =
+    let none : m - m ≡ 0 = omega arith in
+    subst (Is (times (whole n) (point_factor m c)) (2 ^ (m - c))) (ap (λ k. n *ℤ power k) none ∙ times_one n) (is_whole_at_point n m c m (omega arith) h)
+
 -- a fraction's value is that of a count where the two are one over a denominator
-count_of : (t : Ty) {f : Fraction} (n : ℤ) (a c m : ℕ) → a ≤ m → c ≤ m → Is f (2 ^ (m - c)) (raised n a m) → value_in t None f ≡ count_in t n a c
+count_of : (t : Ty) {f : Fraction} (n : ℤ) (m c : ℕ) → c ≤ m → Is f (2 ^ (m - c)) n → value_in t None f ≡ count_in t n m c
 unfolding count_in
-count_of t n a c m h k i = value_is t i (is_whole_at_point n a c m h k)
+count_of t n m c h i = value_is t i (is_lowered n m c h)
 
--- sums, differences and sizes of raised counts, raised again
-raised-plus : (x y : ℤ) (a b p m : ℕ) → a ≤ p → b ≤ p → p ≤ m → raised x a m +ℤ raised y b m ≡ raised (raised x a p +ℤ raised y b p) p m
-raised-plus x y a b p m h k l = ap₂ (λ s t. s +ℤ t) (sym (raised_twice x a p m h l)) (sym (raised_twice y b p m k l)) ∙ sym (int_add-mul (raised x a p) (raised y b p) (power (m - p)))
-
-raised-minus : (x y : ℤ) (a b p m : ℕ) → a ≤ p → b ≤ p → p ≤ m → raised x a m -ℤ raised y b m ≡ raised (raised x a p -ℤ raised y b p) p m
-raised-minus x y a b p m h k l = ap₂ (λ s t. s -ℤ t) (sym (raised_twice x a p m h l)) (sym (raised_twice y b p m k l)) ∙ sym (int_sub-mul (raised x a p) (raised y b p) (power (m - p)))
-
-raised-absolute : (n : ℤ) (p m : ℕ) → pos (unsigned_abs (raised n p m)) ≡ raised (pos (unsigned_abs n)) p m
-raised-absolute n p m = ap pos (unsigned_abs-mul_pos n (2 ^ (m - p)))
+-- the highest of the three points
+abbrev pub highest : Points → ℕ
+highest points = max (max points.a points.b) points.c
 
 pub convert_is : (t : Ty) (x y : ℤ) (points : Points) → scaled_value Convert t x y points ≡ count_in t x points.a points.c
 unfolding scaled_value count_in
 convert_is t x y points = refl
 
-pub add_is : (t : Ty) (x y : ℤ) (points : Points) → scaled_value Add t x y points ≡ count_in t (raised x points.a (max points.a points.b) +ℤ raised y points.b (max points.a points.b)) (max points.a points.b) points.c
+pub add_is : (t : Ty) (x y : ℤ) (points : Points) → scaled_value Add t x y points ≡ count_in t (raised x points.a (highest points) +ℤ raised y points.b (highest points)) (highest points) points.c
 unfolding scaled_value
 add_is t x y points =
-    let p = max points.a points.b in
-    let m = max p points.c in
-    count_of t _ p points.c m (omega arith) (omega arith) (subst (Is _ _) (raised-plus x y points.a points.b p m (omega arith) (omega arith) (omega arith)) (is_plus (is_whole_at_point x points.a points.c m (omega arith) (omega arith)) (is_whole_at_point y points.b points.c m (omega arith) (omega arith))))
+    let m = highest points in
+    count_of t _ m points.c (omega arith) (is_plus (is_whole_at_point x points.a points.c m (omega arith) (omega arith)) (is_whole_at_point y points.b points.c m (omega arith) (omega arith)))
 
-pub sub_is : (t : Ty) (x y : ℤ) (points : Points) → scaled_value Sub t x y points ≡ count_in t (raised x points.a (max points.a points.b) -ℤ raised y points.b (max points.a points.b)) (max points.a points.b) points.c
+pub sub_is : (t : Ty) (x y : ℤ) (points : Points) → scaled_value Sub t x y points ≡ count_in t (raised x points.a (highest points) -ℤ raised y points.b (highest points)) (highest points) points.c
 unfolding scaled_value
 sub_is t x y points =
-    let p = max points.a points.b in
-    let m = max p points.c in
-    count_of t _ p points.c m (omega arith) (omega arith) (subst (Is _ _) (raised-minus x y points.a points.b p m (omega arith) (omega arith) (omega arith)) (is_minus (is_whole_at_point x points.a points.c m (omega arith) (omega arith)) (is_whole_at_point y points.b points.c m (omega arith) (omega arith))))
+    let m = highest points in
+    count_of t _ m points.c (omega arith) (is_minus (is_whole_at_point x points.a points.c m (omega arith) (omega arith)) (is_whole_at_point y points.b points.c m (omega arith) (omega arith)))
 
-pub abs_diff_is : (t : Ty) (x y : ℤ) (points : Points) → scaled_value AbsDiff t x y points ≡ count_in t (pos (unsigned_abs (raised x points.a (max points.a points.b) -ℤ raised y points.b (max points.a points.b)))) (max points.a points.b) points.c
+pub abs_diff_is : (t : Ty) (x y : ℤ) (points : Points) → scaled_value AbsDiff t x y points ≡ count_in t (pos (unsigned_abs (raised x points.a (highest points) -ℤ raised y points.b (highest points)))) (highest points) points.c
 unfolding scaled_value
 abs_diff_is t x y points =
-    let p = max points.a points.b in
-    let m = max p points.c in
-    count_of t _ p points.c m (omega arith) (omega arith) (subst (Is _ _) (ap (λ z. pos (unsigned_abs z)) (raised-minus x y points.a points.b p m (omega arith) (omega arith) (omega arith)) ∙ raised-absolute _ p m) (is_absolute (is_minus (is_whole_at_point x points.a points.c m (omega arith) (omega arith)) (is_whole_at_point y points.b points.c m (omega arith) (omega arith)))))
+    let m = highest points in
+    count_of t _ m points.c (omega arith) (is_absolute (is_minus (is_whole_at_point x points.a points.c m (omega arith) (omega arith)) (is_whole_at_point y points.b points.c m (omega arith) (omega arith))))
 
 -- ---- products
 
@@ -197,8 +203,12 @@ div_is t x y points =
     let m = max points.a p in
     quotient_is t _ (is_whole_at_point x points.a p m (omega arith) (omega arith)) (is_whole y (2 ^ (m - p)) (pow_pos (m - p)))
 
--- what is stored of a count, the two cases of a quotient, and the forms
-pub ruleset storing = (count_in-shifted, to_z-of_z)
+-- what is stored of a count, of a count that was raised, and of a product; the two cases of a quotient; and the forms
+pub ruleset storing = (count_in-lowered, to_z-of_z)
+
+pub ruleset converting = (count_in-raised, to_z-of_z)
+
+pub ruleset shifting = (count_in-shifted, to_z-of_z)
 
 pub ruleset quotients = (quotient-by_zero_end, quotient-by_other_nearest, to_z-of_z)
 

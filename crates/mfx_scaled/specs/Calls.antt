@@ -4,7 +4,7 @@ use Rattle.fx_fraction.specs.Fraction.{Fraction, whole}
 use Rattle.fx_core.specs.declared.word_type.Ty.{Ty}
 use Rattle.mfx_arith.specs.Calls.{value_in}
 use Rattle.fx_routines.specs.declared.operation.ScaledOp.{ScaledOp}
-use Rattle.mfx_scaled.specs.declared.operation.Points.{Points}
+use Rattle.mfx_scaled.specs.declared.binary_points.Points.{Points}
 use Rattle.mfx_scaled.specs.Formulas.{quotient_of, scaled_formula}
 
 -- two whole numbers as arguments

@@ -4,16 +4,17 @@ use Rattle.std.specs.Prelude.{ℕ, ◌+◌, ◌-◌, ◌^◌, pos, nat_le, if◌
 use Rattle.fx_fraction.specs.Fraction.{Fraction, whole, over, plus, minus, times, divided, absolute}
 use Rattle.fx_routines.specs.declared.operation.ScaledOp.{ScaledOp}
 use Rattle.fx_routines.specs.declared.operation.ScaledOp.TheVariants.{Convert, Add, Sub, AbsDiff, Mul, Div}
-use Rattle.mfx_scaled.specs.declared.operation.Points.{Points}
+use Rattle.mfx_scaled.specs.declared.binary_points.Points.{Points}
 
 -- the factor from the binary point a to the binary point c, two to the power of c - a
 unfoldable pub point_factor : ℕ → ℕ → Fraction
 point_factor a c = if nat_le a c then whole (pos (2 ^ (c - a))) else over (pos 1) (2 ^ (a - c))
 
--- the first and the second input at the output's binary point
+-- the first input at the output's binary point
 abbrev pub first_given : Points → (ℕ → Fraction) → Fraction
 first_given points given = times (given 0) (point_factor points.a points.c)
 
+-- the second input at the output's binary point
 abbrev pub second_given : Points → (ℕ → Fraction) → Fraction
 second_given points given = times (given 1) (point_factor points.b points.c)
 

@@ -1,9 +1,10 @@
 // Exact numbers on the way from raw counts to an answer: a whole number of counts at a binary
-// point. A raw count has at most 32 bits, and a product of two at most 64.
+// point. A raw count has at most 32 bits, and 64 hold it raised by 30 places; the product of two
+// alone wants 128.
 
-ghost use Rattle.std.specs.Prelude.{◌≡◌, ◌≢◌, ◌+◌, ◌+ℤ◌, ◌-ℤ◌, ◌*ℤ◌, ◌<◌, ◌≤◌, ◌^◌, if◌then◌else◌, int_div, max, pos, unsigned_abs};
+ghost use Rattle.std.specs.Prelude.{◌≡◌, ◌≢◌, ◌+◌, ◌+ℤ◌, ◌-ℤ◌, ◌*ℤ◌, ◌<◌, ◌≤◌, ◌^◌, if◌then◌else◌, int_div, max, neg_ℤ, pos, unsigned_abs};
 ghost use Rattle.fx_core.specs.Rounding.{power};
-ghost use Rattle.fx_core.specs.Types.{greatest_of, least_of};
+ghost use Rattle.fx_core.specs.Types.{greatest_of, least_of, saturated};
 ghost use Rattle.mfx_arith.specs.Integers.{quotient_in};
 ghost use Rattle.mfx_scaled.specs.Counts.{count_in, raised};
 
@@ -12,6 +13,13 @@ use fx_core::{Mode, Ty, sat, shift_round};
 /// The number `number / 2^point`, exact.
 #[derive(Clone, Copy)]
 pub(crate) struct Count {
+    number: i64,
+    point: u8,
+}
+
+/// The product of two raw counts, exact, at the sum of their points.
+#[derive(Clone, Copy)]
+pub(crate) struct Product {
     number: i128,
     point: u8,
 }
@@ -21,39 +29,38 @@ pub(crate) fn exact(raw: i64, point: u8) -> Count
     ensures number { result.number ≡ raw }
     ensures point { result.point ≡ point }
 {
-    Count {
-        number: i128::from(raw),
-        point,
-    }
+    Count { number: raw, point }
 }
 
 impl Count {
-    /// The sum, at the higher of the two points.
-    pub(crate) fn plus(self, other: Count) -> Count
+    /// The sum, at the highest of the two points and `least_point`.
+    pub(crate) fn plus(self, other: Count, least_point: u8) -> Count
         requires first { unsigned_abs self.number < 2 ^ 32 }
         requires second { unsigned_abs other.number < 2 ^ 32 }
         requires points { (self.point ≤ 15) × (other.point ≤ 15) }
+        requires least { least_point ≤ 15 }
         ensures number { result.number ≡ raised self.number self.point result.point +ℤ raised other.number other.point result.point }
-        ensures point { result.point ≡ max self.point other.point }
-        ensures size { unsigned_abs result.number < 2 ^ 64 }
+        ensures point { result.point ≡ max (max self.point other.point) least_point }
+        ensures size { unsigned_abs result.number < 2 ^ 63 }
     {
-        let point = self.point.max(other.point);
+        let point = self.point.max(other.point).max(least_point);
         Count {
             number: self.raised(point).number + other.raised(point).number,
             point,
         }
     }
 
-    /// The difference, at the higher of the two points.
-    pub(crate) fn minus(self, other: Count) -> Count
+    /// The difference, at the highest of the two points and `least_point`.
+    pub(crate) fn minus(self, other: Count, least_point: u8) -> Count
         requires first { unsigned_abs self.number < 2 ^ 32 }
         requires second { unsigned_abs other.number < 2 ^ 32 }
         requires points { (self.point ≤ 15) × (other.point ≤ 15) }
+        requires least { least_point ≤ 15 }
         ensures number { result.number ≡ raised self.number self.point result.point -ℤ raised other.number other.point result.point }
-        ensures point { result.point ≡ max self.point other.point }
-        ensures size { unsigned_abs result.number < 2 ^ 64 }
+        ensures point { result.point ≡ max (max self.point other.point) least_point }
+        ensures size { unsigned_abs result.number < 2 ^ 63 }
     {
-        let point = self.point.max(other.point);
+        let point = self.point.max(other.point).max(least_point);
         Count {
             number: self.raised(point).number - other.raised(point).number,
             point,
@@ -62,7 +69,7 @@ impl Count {
 
     /// The number without its sign.
     pub(crate) fn absolute(self) -> Count
-        requires { unsigned_abs self.number < 2 ^ 64 }
+        requires { unsigned_abs self.number < 2 ^ 63 }
         ensures number { result.number ≡ pos (unsigned_abs self.number) }
         ensures point { result.point ≡ self.point }
     {
@@ -72,8 +79,36 @@ impl Count {
         }
     }
 
-    /// The product, at the sum of the two points.
-    pub(crate) fn times(self, other: Count) -> Count
+    /// The number as a raw count of `t` at a binary point that isn't higher: rounded toward zero,
+    /// and the nearest count that `t` has.
+    #[tactic(auto, using(crate::proofs::Steps::storing))]
+    pub(crate) fn stored(self, t: Ty, point: u8) -> i64
+        requires size { unsigned_abs self.number < 2 ^ 63 }
+        requires down { point ≤ self.point }
+        requires few { self.point ≤ 30 }
+        ensures { result ≡ count_in t self.number self.point point }
+    {
+        let rounded = without_digits(self.number, self.point - point);
+        nearest(t, rounded)
+    }
+
+    /// A raw count as one of `t` at any binary point, rounded and saturated likewise.
+    #[tactic(auto, using(crate::proofs::Steps::converting))]
+    pub(crate) fn converted(self, t: Ty, point: u8) -> i64
+        requires size { unsigned_abs self.number < 2 ^ 32 }
+        requires from { self.point ≤ 15 }
+        requires to { point ≤ 15 }
+        ensures { result ≡ count_in t self.number self.point point }
+    {
+        if point < self.point {
+            self.stored(t, point)
+        } else {
+            self.raised(point).stored(t, point)
+        }
+    }
+
+    /// The product of two raw counts.
+    pub(crate) fn times(self, other: Count) -> Product
         requires first { unsigned_abs self.number < 2 ^ 32 }
         requires second { unsigned_abs other.number < 2 ^ 32 }
         requires points { (self.point ≤ 15) × (other.point ≤ 15) }
@@ -81,23 +116,10 @@ impl Count {
         ensures point { result.point ≡ self.point + other.point }
         ensures size { unsigned_abs result.number < 2 ^ 64 }
     {
-        Count {
-            number: self.number * other.number,
+        Product {
+            number: i128::from(self.number) * i128::from(other.number),
             point: self.point + other.point,
         }
-    }
-
-    /// The number as a raw count of `t` at the binary point `point`: rounded toward zero, and the
-    /// nearest count that `t` has.
-    #[tactic(auto, using(crate::proofs::Steps::storing))]
-    pub(crate) fn stored(self, t: Ty, point: u8) -> i64
-        requires size { unsigned_abs self.number < 2 ^ 64 }
-        requires from { self.point ≤ 30 }
-        requires to { point ≤ 15 }
-        ensures { result ≡ count_in t self.number self.point point }
-    {
-        let rounded = shift_round(self.number, distance(self.point, point), Mode::Zero);
-        sat(t, rounded)
     }
 
     /// The quotient as a raw count of `t` at the binary point `point`: rounded toward zero, and the
@@ -137,13 +159,59 @@ impl Count {
     }
 }
 
+impl Product {
+    /// The number as a raw count of `t` at the binary point `point`: rounded toward zero, and the
+    /// nearest count that `t` has.
+    #[tactic(auto, using(crate::proofs::Steps::shifting))]
+    pub(crate) fn stored(self, t: Ty, point: u8) -> i64
+        requires size { unsigned_abs self.number < 2 ^ 64 }
+        requires from { self.point ≤ 30 }
+        requires to { point ≤ 15 }
+        ensures { result ≡ count_in t self.number self.point point }
+    {
+        let rounded = shift_round(self.number, distance(self.point, point), Mode::Zero);
+        sat(t, rounded)
+    }
+}
+
 #[tactic(auto, using(crate::proofs::Sizes::power_small))]
-fn power_of_two(places: u8) -> i128
+fn power_of_two(places: u8) -> i64
     requires { places ≤ 30 }
     ensures value { result ≡ power places }
     ensures size { unsigned_abs result ≤ 2 ^ 30 }
 {
-    i128::from(1_u32 << places)
+    i64::from(1_u32 << places)
+}
+
+// The number without its last binary digits: its quotient by a power of two, rounded toward zero.
+fn without_digits(number: i64, places: u8) -> i64
+    requires size { unsigned_abs number < 2 ^ 63 }
+    requires few { places ≤ 30 }
+    ensures { result ≡ int_div number (power places) }
+{
+    signed(number < 0, number.unsigned_abs() >> places)
+}
+
+// The number of this sign and this size.
+fn signed(negative: bool, size: u64) -> i64
+    requires { size < 2 ^ 63 }
+    ensures { result ≡ (if negative then neg_ℤ (pos size) else pos size) }
+{
+    let number = size as i64;
+    if negative { -number } else { number }
+}
+
+// The number of `t` that is nearest to this one.
+fn nearest(t: Ty, number: i64) -> i64
+    ensures { result ≡ saturated t number }
+{
+    if number < t.least() {
+        t.least()
+    } else if t.greatest() < number {
+        t.greatest()
+    } else {
+        number
+    }
 }
 
 // How many places the point `to` is above the point `from`.
@@ -164,18 +232,18 @@ fn quotient(dividend: Count, divisor: Count, t: Ty) -> i64
     if divisor.number == 0 {
         end_beside(t, dividend.number < 0)
     } else {
-        sat(t, i128::from(toward_zero(dividend, divisor)))
+        nearest(t, toward_zero(dividend, divisor))
     }
 }
 
-// The quotient of the counts by what isn't 0, rounded toward zero. 64 bits divide it, and not 128.
+// The quotient of the counts by what isn't 0, rounded toward zero.
 fn toward_zero(dividend: Count, divisor: Count) -> i64
     requires dividend { unsigned_abs dividend.number < 2 ^ 62 }
     requires divisor { unsigned_abs divisor.number < 2 ^ 62 }
     requires nonzero { divisor.number ≢ pos 0 }
     ensures { result ≡ int_div dividend.number divisor.number }
 {
-    dividend.number as i64 / divisor.number as i64
+    dividend.number / divisor.number
 }
 
 // The least count of the type, or else the greatest.

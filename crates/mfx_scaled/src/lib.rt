@@ -2,12 +2,10 @@
 // at binary points of their own, and the conversion between two points.
 #![tactic(auto)]
 
+mod binary_points;
 mod calls;
 mod counts;
-mod operation;
-#[cfg(test)]
-mod tests;
 
+pub use crate::binary_points::Points;
 pub use crate::calls::call;
-pub use crate::operation::Points;
 pub use fx_routines::ScaledOp;

@@ -1,5 +1,5 @@
 -- The steps of the forms with binary points: what they are given, and the values that they give.
-use Rattle.std.proofs.Common.{◌≡◌, ℕ, List, [], ◌∷◌, ℤ, refl, sym, ap, ap₂, ◌∙◌}
+use Rattle.std.proofs.Common.{◌≡◌, ℕ, ℤ, refl, sym, ap, ap₂, ◌∙◌}
 use Rattle.std.specs.Prelude.{IfSome, slice_get}
 use Rattle.fx_fraction.specs.Fraction.{whole}
 use Rattle.fx_core.specs.declared.word_type.Ty.{Ty}
@@ -10,7 +10,7 @@ use Rattle.fx_routines.specs.declared.operation.Variant.{Variant}
 use Rattle.mfx_arith.specs.Calls.{value_in}
 use Rattle.fx_routines.specs.declared.operation.ScaledOp.{ScaledOp}
 use Rattle.fx_routines.specs.declared.operation.ScaledOp.TheVariants.{Convert, Div}
-use Rattle.mfx_scaled.specs.declared.operation.Points.{Points}
+use Rattle.mfx_scaled.specs.declared.binary_points.Points.{Points}
 use Rattle.mfx_scaled.specs.Operations.{argument_types, HasArguments}
 use Rattle.mfx_scaled.specs.Formulas.{scaled_formula, quotient_of}
 use Rattle.mfx_scaled.specs.Calls.{two_given, scaled_value}

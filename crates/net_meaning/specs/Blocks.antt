@@ -5,7 +5,7 @@ use Rattle.fx_core.specs.declared.quotient.Mode.{Mode}
 use Rattle.fx_core.specs.declared.quotient.Mode.TheVariants.{Zero, Near}
 use Rattle.fx_core.specs.Types.{saturated_to}
 use Rattle.fx_core.specs.Values.{rounded_fraction, unsaturated}
-use Rattle.mfx_scaled.specs.declared.operation.Points.{Points}
+use Rattle.mfx_scaled.specs.declared.binary_points.Points.{Points}
 use Rattle.net_model.specs.declared.wires.Kind.{Kind}
 use Rattle.net_model.specs.declared.wires.Block.{Block}
 use Rattle.net_model.specs.declared.wires.Block.TheVariants.{Arith, Scaled}
@@ -39,10 +39,11 @@ unfoldable pub quotient_of : List Wire → Kind → Block → (ℕ → ℕ → F
 quotient_of wires kind (Arith op v x y z sh) given = arith_quotient op sh (λ p. given p 0)
 quotient_of wires kind (Scaled op v x y) given = scaled_quotient op (points_of wires kind (Scaled op v x y)) (λ p. given p 0)
 
--- the least and the greatest state Y, which has 16 fractional bits
+-- the least state Y, as a raw count with 16 fractional bits
 abbrev pub state_least : ℤ
 state_least = negsuc 140737488355327
 
+-- the greatest one, likewise
 abbrev pub state_greatest : ℤ
 state_greatest = pos 140737488355327
 
@@ -64,23 +65,26 @@ exact_state (Some y) = y
 abbrev pub saturated_cell : Kind → ℤ → ℤ → Cell ℤ
 saturated_cell kind state value = record { state = saturated_to state_least state_greatest state; state_unsaturated = state; value = saturated_to (kind_least kind) (kind_greatest kind) value; value_unsaturated = value }
 
--- the machine: whole numbers, each formula rounded once and saturated
+-- a block's state in the machine before saturation, from what it reads and its state a row earlier
 unfoldable pub machine_state_of : List Wire → Block → (ℕ → ℕ → ℤ) → ℤ → ℤ
 machine_state_of wires b given old = machine_state (state_formula wires b (as_fractions given) (whole old))
 
+-- a block's value in the machine before saturation, from what it reads and its state at this row
 unfoldable pub machine_value_of : List Wire → Kind → Block → (ℕ → ℕ → ℤ) → ℤ → ℤ
 machine_value_of wires kind b given state = unsaturated (mode_of b) (kind_least kind) (kind_greatest kind) (quotient_of wires kind b (as_fractions given)) (formula wires kind b (as_fractions given) (whole state))
 
+-- the machine: whole numbers, each formula rounded once and saturated
 unfoldable pub machine : Meaning ℤ
 machine = record {
   of_whole = λ z. z;
   of_block = λ wires kind b given before. let state = machine_state_of wires b given before.state in saturated_cell kind state (machine_value_of wires kind b given (saturated_to state_least state_greatest state));
 }
 
--- the exact values: fractions, never rounded and never saturated
+-- an exact cell, which has nothing to saturate, from its state and its value
 unfoldable pub exact_cell : Fraction → Fraction → Cell Fraction
 exact_cell state value = record { state = state; state_unsaturated = state; value = value; value_unsaturated = value }
 
+-- the exact values: fractions, never rounded and never saturated
 unfoldable pub exact : Meaning Fraction
 exact = record {
   of_whole = whole;

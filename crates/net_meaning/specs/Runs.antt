@@ -14,6 +14,7 @@ equation_of M wires rows cells i (Input lo hi) = plain M (get_or (get_or rows 0 
 equation_of M wires rows cells i (Const value) = plain M value
 equation_of M wires rows cells i (OfBlock b) = M.of_block wires (wire_at wires i).kind b (λ p ago. (cells ago (argument_of b p)).value) (cells 1 i)
 
+-- what wire i is said to hold by the item that it has
 abbrev pub equation : {V : Type 0} → Meaning V → List Wire → List (List ℤ) → (ℕ → ℕ → Cell V) → ℕ → Cell V
 equation M wires rows cells i = equation_of M wires rows cells i (wire_at wires i).item
 

@@ -1,6 +1,9 @@
 use Rattle.std.proofs.Common.{rules}
-use Rattle.mfx_scaled.proofs.Steps.{abs_diff_is, add_is, div_is, mul_is, sub_is}
+use Rattle.mfx_scaled.proofs.Steps.{abs_diff_is, add_is, convert_is, div_is, mul_is, sub_is}
 use Rattle.mfx_scaled.proofs.calls.call.Goals as goal
+
+pub returns-in-Convert : goal.returns-in-Convert
+returns-in-Convert c = rw (c.in-Convert.is, convert_is) (search rules)
 
 pub returns-in-Add : goal.returns-in-Add
 returns-in-Add c = rw (c.in-Add.is, add_is) (search rules)
