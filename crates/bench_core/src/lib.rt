@@ -17,8 +17,6 @@ mod refusals;
 mod run_lines;
 mod running;
 mod steps;
-#[cfg(test)]
-mod tests;
 mod top;
 mod word_list;
 

@@ -1,6 +1,6 @@
 // Which part of a certificate fails first.
 
-ghost use Rattle.std.specs.Prelude.{◌≡◌, ◌<◌, ◌&&◌, int_le, length, option_map, pos};
+ghost use Rattle.std.specs.Prelude.{◌≡◌, ◌<◌, ◌&&◌, None, int_le, length, option_map, pos};
 ghost use Rattle.net_model.specs.Wires.{parts_of};
 ghost use Rattle.cert_rules.specs.Acceptance.{first_failing, first_rejected, is_inductive_at, is_sound_at};
 ghost use Rattle.cert_rules.specs.Entries.{AreSound};
@@ -22,10 +22,12 @@ pub fn rejected_part(net: &Network, entries: &[Bounds]) -> Option<PartNo>
     }
 }
 
-/// The first part whose entry isn't sound.
-pub(crate) fn first_unsound(net: &Network, entries: &[Bounds]) -> Option<PartNo>
+/// The first part whose entry isn't sound: it isn't allowed, its range is empty or its error negative. None where
+/// all are sound, as `rule` wants them.
+pub fn first_unsound(net: &Network, entries: &[Bounds]) -> Option<PartNo>
     requires { length entries.now ≡ length (parts_of net.now.wires) }
-    ensures { option_map (λ p. p.0) result
+    ensures sound { result ≡ None → AreSound net.now.wires entries.now }
+    ensures first { option_map (λ p. p.0) result
         ≡ first_failing (is_sound_at net.now.wires entries.now) 0 (length (parts_of net.now.wires)) }
 {
     for k in 0..part_count(net) {

@@ -2,20 +2,14 @@
 // accepted certificate holds over every recording.
 #![tactic(auto)]
 
-#[cfg(test)]
-mod argument_tests;
 mod arguments;
 mod arith_errors;
 mod arith_laws;
 mod arith_ranges;
 mod arith_ruling;
-#[cfg(test)]
-mod arith_tests;
 mod arith_values;
 mod bounds;
 mod certificate;
-#[cfg(test)]
-mod certificate_tests;
 mod checking;
 mod limits;
 mod lookups;
@@ -27,17 +21,13 @@ mod scaled_errors;
 mod scaled_laws;
 mod scaled_ranges;
 mod scaled_ruling;
-#[cfg(test)]
-mod scaled_tests;
 mod scaled_values;
-#[cfg(test)]
-mod tests;
 
 pub use arguments::{argument, rules_read_their_arguments};
 pub use arith_laws::law_of_arith_rules;
 pub use bounds::Bounds;
 pub use certificate::{BadBounds, Certificate};
-pub use checking::rejected_part;
+pub use checking::{first_unsound, rejected_part};
 pub use limits::allowed;
 pub use promise::{acceptance_is_exact, certificates_hold};
 pub use ruling::rule;

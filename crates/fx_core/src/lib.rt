@@ -5,8 +5,6 @@
 mod fraction_laws;
 mod native;
 mod quotient;
-#[cfg(test)]
-mod tests;
 mod word_type;
 
 pub use crate::fraction_laws::laws_of_fractions;

@@ -18,6 +18,3 @@ pub use real::{FileShelf, StdSink};
 pub use steady::{SteadyShelf, SteadySink};
 pub use stored::Stored;
 pub use whole::{ReadAllFault, read_all};
-
-#[cfg(test)]
-mod tests;

@@ -7,8 +7,6 @@ mod laws;
 mod operation;
 mod reading;
 mod table;
-#[cfg(test)]
-mod tests;
 mod writing;
 
 pub use crate::fitting::takes;

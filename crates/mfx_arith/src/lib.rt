@@ -8,8 +8,6 @@ mod limits;
 mod quotients;
 mod sums;
 mod taking;
-#[cfg(test)]
-mod tests;
 
 pub use crate::calls::call;
 pub use crate::limits::{limit, max, min, rate_limiter};

@@ -2,4 +2,3 @@ pub mod StepFacts
 pub mod ArithSteps
 pub mod ScaledSteps
 pub mod RowFacts
-pub mod TestRows

@@ -4,7 +4,5 @@
 mod evaluator;
 mod filling;
 mod resolving;
-#[cfg(test)]
-mod tests;
 
 pub use evaluator::Plan;

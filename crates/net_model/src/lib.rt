@@ -9,8 +9,6 @@ mod naming;
 mod network;
 mod numbering;
 mod smoothness;
-#[cfg(test)]
-mod tests;
 mod wires;
 
 pub use built::{ArgumentTypes, GREATEST_SHIFT, argument_types, has_shift, is_built, scaled_types};

@@ -1,16 +1,24 @@
-use crate::{
-    Block, Draft, Item, Kind, Name, NameFault, NetKind, NetRefusal, Network, PartNo, Role, Wire,
-    WireNo,
-};
+// `net_model`: a draft that makes a network, and drafts that don't.
+
 use fx_core::Ty;
 use mfx_arith::{ArithOp, Variant};
 use mfx_scaled::ScaledOp;
+use net_model::{
+    Block, Draft, Item, Kind, Name, NameFault, NetKind, NetRefusal, Network, PartNo, Role, Wire,
+    WireNo,
+};
 use std::alloc::Global;
 use std::test::Fail;
 
 const SAME: Variant = Variant {
     x: Ty::S16,
     y: Ty::S16,
+    o: Ty::S16,
+};
+
+const UNLIKE: Variant = Variant {
+    x: Ty::S16,
+    y: Ty::U16,
     o: Ty::S16,
 };
 
@@ -43,61 +51,64 @@ const SUM: Sum = Sum {
     outs: &[WireNo(3)],
 };
 
-// One change of the network, for which it is refused.
-#[derive(Clone, Copy, Debug)]
-enum Change {
-    NameTwice,
-    Remainder,
-    OwnWire,
-    OtherType,
-    OneTooMany,
-    ShiftOf16,
-    NoShift,
-    Point16,
-    EmptyRange,
-    OutputTwice,
-    OutputPast,
-    NoOutput,
-}
-
-fn changed(change: Change) -> Sum {
-    match change {
-        Change::NameTwice => Sum { name: b"a", ..SUM },
-        Change::Remainder => Sum {
+// Changes of the network, each with the wire and the kind for which it is refused.
+const REFUSED: [(Sum, u32, NetKind); 12] = [
+    (Sum { name: b"a", ..SUM }, 3, NetKind::Repeated),
+    (
+        Sum {
             op: ArithOp::Mod,
             ..SUM
         },
-        Change::OwnWire => Sum {
+        3,
+        NetKind::NotBuilt,
+    ),
+    (
+        Sum {
             y: WireNo(3),
             ..SUM
         },
-        Change::OtherType => Sum {
-            v: Variant { y: Ty::U16, ..SAME },
-            ..SUM
-        },
-        Change::OneTooMany => Sum {
+        3,
+        NetKind::LaterWire,
+    ),
+    (Sum { v: UNLIKE, ..SUM }, 3, NetKind::TypeDiffers),
+    (
+        Sum {
             z: WireNo(1),
             ..SUM
         },
-        Change::ShiftOf16 => Sum {
+        3,
+        NetKind::TypeDiffers,
+    ),
+    (
+        Sum {
             op: ArithOp::MulShRight,
             sh: 16,
             ..SUM
         },
-        Change::NoShift => Sum { sh: 1, ..SUM },
-        Change::Point16 => Sum { point: 16, ..SUM },
-        Change::EmptyRange => Sum { lo: 1001, ..SUM },
-        Change::OutputTwice => Sum {
+        3,
+        NetKind::OutOfRange,
+    ),
+    (Sum { sh: 1, ..SUM }, 3, NetKind::OutOfRange),
+    (Sum { point: 16, ..SUM }, 3, NetKind::OutOfRange),
+    (Sum { lo: 1001, ..SUM }, 0, NetKind::OutOfRange),
+    (
+        Sum {
             outs: &[WireNo(3), WireNo(3)],
             ..SUM
         },
-        Change::OutputPast => Sum {
+        4,
+        NetKind::Repeated,
+    ),
+    (
+        Sum {
             outs: &[WireNo(4)],
             ..SUM
         },
-        Change::NoOutput => Sum { outs: &[], ..SUM },
-    }
-}
+        4,
+        NetKind::LaterWire,
+    ),
+    (Sum { outs: &[], ..SUM }, 4, NetKind::Missing),
+];
 
 fn wire(alloc: Global, name: &[u8], kind: Kind, item: Item) -> Result<Wire, NameFault> {
     let name = Name::new(alloc, name)?;
@@ -143,35 +154,21 @@ fn refusal_of(alloc: Global, sum: Sum) -> Result<Option<NetRefusal>, Fail> {
 #[test]
 fn makes_a_network(rt: HostRuntime) -> Result<(), Fail> {
     let net = Network::new(rt.alloc(), draft_of(rt.alloc(), SUM)?)?;
-    assert_eq!(rt; net.wires().len(), 4);
-    assert_eq!(rt; net.wires()[2].name.bytes(), b"c".as_slice());
-    assert_eq!(rt; net.inputs(), [WireNo(0), WireNo(1)].as_slice());
-    assert_eq!(rt; net.outs(), [WireNo(3)].as_slice());
-    assert_eq!(rt; net.parts().len(), 4);
-    assert_eq!(rt; net.part_of(WireNo(2), Role::Value), Some(PartNo(2)));
-    assert!(rt; net.smooth().is_ok());
-    assert_eq!(rt; net.find(b"c"), Some(WireNo(2)));
-    assert_eq!(rt; net.find(b"t"), None);
-    for (change, wire, kind) in [
-        (Change::NameTwice, 3, NetKind::Repeated),
-        (Change::Remainder, 3, NetKind::NotBuilt),
-        (Change::OwnWire, 3, NetKind::LaterWire),
-        (Change::OtherType, 3, NetKind::TypeDiffers),
-        (Change::OneTooMany, 3, NetKind::TypeDiffers),
-        (Change::ShiftOf16, 3, NetKind::OutOfRange),
-        (Change::NoShift, 3, NetKind::OutOfRange),
-        (Change::Point16, 3, NetKind::OutOfRange),
-        (Change::EmptyRange, 0, NetKind::OutOfRange),
-        (Change::OutputTwice, 4, NetKind::Repeated),
-        (Change::OutputPast, 4, NetKind::LaterWire),
-        (Change::NoOutput, 4, NetKind::Missing),
-    ] {
-        let refusal = refusal_of(rt.alloc(), changed(change))?;
-        assert_eq!(rt;
-            refusal,
-            Some(NetRefusal::At { wire, kind }),
-            "at {change:?}"
-        );
+    assert_eq!(rt; [net.wires().len(), net.parts().len()], [4, 4]);
+    assert_eq!(rt;
+        [net.inputs(), net.outs()],
+        [[WireNo(0), WireNo(1)].as_slice(), [WireNo(3)].as_slice()]
+    );
+    assert_eq!(rt; [net.find(b"c"), net.find(b"t")], [Some(WireNo(2)), None]);
+    assert!(rt; net.part_of(WireNo(2), Role::Value) == Some(PartNo(2)) && net.smooth().is_ok());
+    Ok(())
+}
+
+#[test]
+fn refuses_drafts(rt: HostRuntime) -> Result<(), Fail> {
+    for (sum, wire, kind) in REFUSED {
+        let refusal = refusal_of(rt.alloc(), sum)?;
+        assert_eq!(rt; refusal, Some(NetRefusal::At { wire, kind }));
     }
     Ok(())
 }

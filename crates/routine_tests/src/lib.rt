@@ -1,0 +1,12 @@
+// Worked values of the routines and of what they stand on, one file a crate, through public calls alone. A crate
+// with tests is proved once more for them, so those of the crates of numbers and routines stand together here.
+#![tactic(auto)]
+
+#[cfg(test)]
+mod arithmetic;
+#[cfg(test)]
+mod binary_point_forms;
+#[cfg(test)]
+mod rounding;
+#[cfg(test)]
+mod routine_names;
