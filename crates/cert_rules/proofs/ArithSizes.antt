@@ -5,7 +5,7 @@ use Rattle.std.proofs.Common.{refl, lit<, sym, ap, ap₂, ◌∙◌, arith, mul-
 use borrow.Author.Differences.{fits_in}
 use native.Mathlib.Nat.{mul-pos}
 use Rattle.std.proofs.lemmas.Nat.{pow_pos}
-use Rattle.std.proofs.lemmas.Int.{ints, to_z-of_z}
+use Rattle.std.proofs.lemmas.Int.{ints, to_z-of_z, fits_signed_mul}
 use Rattle.fx_fraction.proofs.WholeNumbers.{int_le-pos, le_of-int_le, int_lt-le_trans, int_mul_not_negative, int_mul_comm}
 use Rattle.fx_core.specs.Rounding.{IsLeastQuotientAbove, least_quotient_above, power}
 use Rattle.fx_core.proofs.Integers.{less_of_products}
@@ -29,6 +29,14 @@ word_is z low high = omega (arith, ints, low, high)
 
 pub is_below : (z : ℤ) (m n : ℕ) → z ≤ℤ pos m → m < n → z <ℤ pos n
 is_below z m n h k = omega (arith, ints, h, k)
+
+-- the product of a number of at most 78 bits and one of at most 49, as words
+pub product_fits : (x y : ℤ) → FitsSigned w128 x → FitsSigned w128 y → pos 0 ≤ℤ x → x <ℤ pos (2 ^ 78) → pos 0 ≤ℤ y → y <ℤ pos (2 ^ 49) → FitsSigned w128 (word x *ℤ word y)
+product_fits x y f g a b c d =
+    rw (to_z-of_z w128 x f, to_z-of_z w128 y g) (fits_signed_mul w128 x y (2 ^ 78) 562949953421311 (omega (arith, ints, a, b)) (omega (arith, ints, c, d)) (lit< tt))
+
+pub product_word : (x y : ℤ) → FitsSigned w128 x → FitsSigned w128 y → pos 0 ≤ℤ x → x <ℤ pos (2 ^ 78) → pos 0 ≤ℤ y → y <ℤ pos (2 ^ 49) → word (word x *ℤ word y) ≡ x *ℤ y
+product_word x y f g a b c d = to_z-of_z w128 _ (product_fits x y f g a b c d) ∙ ap₂ (λ s t. s *ℤ t) (to_z-of_z w128 x f) (to_z-of_z w128 y g)
 
 -- a quotient rounded up is at most what its dividend is at most
 quotient_above_size : (n q : ℤ) (m : ℕ) → IsLeastQuotientAbove n (pos 65536) q → n ≤ℤ pos (m * 65536) → q ≤ℤ pos m
@@ -260,16 +268,23 @@ product_some (negsuc a) b h k = absurd h.le
 product_some (pos a) (negsuc b) h k = absurd k.le
 
 -- the product of the divisors and a power of two
+raised_divisors_plain : (d p : ℤ) → pos 1 ≤ℤ d → d <ℤ pos (2 ^ 81) → unsigned_abs p ≤ 2 ^ 30 → (word d ≡ d) × (word p ≡ p) × FitsSigned w128 (d *ℤ p)
+raised_divisors_plain d p low high size =
+    (omega (arith, ints, low, high), omega (arith, ints, size), fits_signed_mul w128 d p (2 ^ 81) (2 ^ 30) (omega (arith, ints, low, high)) size (lit< tt))
+
+pub raised_divisors_fits : (d p : ℤ) → pos 1 ≤ℤ d → d <ℤ pos (2 ^ 81) → unsigned_abs p ≤ 2 ^ 30 → FitsSigned w128 (word d *ℤ word p)
+raised_divisors_fits d p low high size =
+    let plain = raised_divisors_plain d p low high size in
+    rw (plain.0, plain.1) plain.2
+
+pub raised_divisors_word : (d p : ℤ) → pos 1 ≤ℤ d → d <ℤ pos (2 ^ 81) → unsigned_abs p ≤ 2 ^ 30 → word (word d *ℤ word p) ≡ d *ℤ p
+raised_divisors_word d p low high size =
+    let plain = raised_divisors_plain d p low high size in
+    rw (plain.0, plain.1) (to_z-of_z w128 (d *ℤ p) plain.2)
+
 pub raised_divisors_some : (shift : ℕ) (d p : ℤ) → pos 1 ≤ℤ d → d <ℤ pos (2 ^ 81) → p ≡ power shift → unsigned_abs p ≤ 2 ^ 30 → pos 1 ≤ℤ word (word d *ℤ word p)
 raised_divisors_some shift d p low high e size =
-    let some : pos 1 ≤ℤ p = rw e (int_le-pos 1 _ (pow_pos shift)) in
-    let small : p ≤ℤ pos (2 ^ 30) = omega (arith, ints, size) in
-    let plain : word d ≡ d = omega (arith, ints, low, high) in
-    let plain' : word p ≡ p = omega (arith, ints, some, small) in
-    let product : pos 1 ≤ℤ (d *ℤ p) = product_some d p low some in
-    let limit : (d *ℤ p) ≤ℤ pos (2 ^ 81 * 2 ^ 30) = product_size d p (2 ^ 81) (2 ^ 30) (omega (arith, ints, low)) (omega (arith, ints, some)) (omega (arith, ints, high)) small in
-    let whole_word : word (d *ℤ p) ≡ d *ℤ p = word_is _ (omega (arith, ints, product)) (is_below _ _ _ limit (lit< tt)) in
-    rw (plain, plain', whole_word) product
+    rw (raised_divisors_word d p low high size) (product_some d p low (rw e (int_le-pos 1 _ (pow_pos shift))))
 
 -- ---- a quotient rounded up and one count
 

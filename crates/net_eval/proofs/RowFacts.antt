@@ -20,7 +20,7 @@ use Rattle.net_model.specs.declared.wires.Block.TheVariants.{Arith, Scaled}
 use Rattle.net_model.specs.declared.wires.Item.{Item}
 use Rattle.net_model.specs.declared.wires.Item.TheVariants.{Input, Const, Block as OfBlock}
 use Rattle.net_model.specs.declared.wires.Wire.{Wire}
-use Rattle.net_model.specs.Wires.{NetData, wire_at, kind_least, kind_greatest, argument_of, is_input, input_place, with_input, inputs_from, inputs_of}
+use Rattle.net_model.specs.Wires.{NetData, wire_at, argument_of, is_input, input_place, with_input, inputs_from, inputs_of}
 use Rattle.net_model.specs.Validity.{IsValid, kind_holds}
 use Rattle.net_model.proofs.ValidityFacts.{IsInKind, IsGiven, const-valid, arith-valid, scaled-valid, number_kind, point_of-valid}
 use Rattle.net_model.proofs.BuiltFacts.{shift_from_test}

@@ -41,7 +41,7 @@ pub(crate) enum Step {
 }
 
 /// The steps of a network, one for each wire.
-#[tactic(auto, using(crate::proofs::StepFacts::resolve_steps))]
+#[tactic(auto, using(crate::proofs::StepFacts::steps_start))]
 pub(crate) fn resolve(alloc: Global, net: &Network) -> Result<Vec<Step>, AllocError>
     ensures { IfOk result (λ steps. steps.items ≡ steps_of net.now.wires (length net.now.wires)) }
 {

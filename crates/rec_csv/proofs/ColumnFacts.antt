@@ -1,5 +1,5 @@
 -- Fields by their columns, and the columns of inputs one by one.
-use Rattle.std.proofs.Common.{◌≡◌, ℕ, ◌+◌, ◌≤◌, ◌<◌, zero, suc, true, false, List, [], ◌∷◌, ◌++◌, length, drop, get_or, refl, sym, ap, arith, append_assoc, append-nil, drop_of_length-le, Option, Some, None, Result, Ok, Err}
+use Rattle.std.proofs.Common.{◌≡◌, ℕ, ◌+◌, ◌≤◌, ◌<◌, zero, suc, true, false, List, [], ◌∷◌, ◌++◌, length, drop, get_or, refl, sym, ap, arith, append_assoc, append-nil, length-append, drop_of_length-le, Option, Some, None, Result, Ok, Err}
 use Rattle.std.specs.Prelude.{bytes_eq}
 use Rattle.std.proofs.lemmas.List.{drop_more}
 use Rattle.csv.specs.Records.{field_at}
@@ -79,6 +79,9 @@ none = record { 0 = 0 }
 pub columns_step : (fields : List (List ℕ)) (wires : List Wire) (inputs : List WireNo) (i : ℕ) (before : List Column) (column : Column) → i < length inputs → column_of fields (get_or inputs i none) (wire_at wires (get_or inputs i none).0) ≡ Ok column → prepended before (columns_of fields wires (drop i inputs)) ≡ prepended (before ++ column ∷ []) (columns_of fields wires (drop (i + 1) inputs))
 unfolding columns_of
 columns_step fields wires inputs i before column lt is = rw (drop_more inputs i none lt, is) (more_ok before column (columns_of fields wires (drop (i + 1) inputs)))
+
+pub one_longer : (before after : List Column) (column : Column) (i : ℕ) → after ≡ before ++ column ∷ [] → length before ≡ i → length after ≡ i + 1
+one_longer before after column i e h = rw e (omega (arith, length-append before (column ∷ []), h))
 
 -- the fault of input i is that of all
 pub columns_fault : (fields : List (List ℕ)) (wires : List Wire) (inputs : List WireNo) (i : ℕ) (before : List Column) (fault : HeadFault) → i < length inputs → column_of fields (get_or inputs i none) (wire_at wires (get_or inputs i none).0) ≡ Err fault → prepended before (columns_of fields wires (drop i inputs)) ≡ Err fault

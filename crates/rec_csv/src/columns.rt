@@ -19,7 +19,7 @@ pub struct Column {
 }
 
 /// The columns of the inputs, in order.
-#[tactic(auto, using(crate::proofs::ColumnFacts::columns_step, crate::proofs::ColumnFacts::columns_fault, crate::proofs::ColumnFacts::columns_end, crate::proofs::ColumnFacts::input_is_wire, crate::proofs::ColumnFacts::tells_columns))]
+#[tactic(auto, using(crate::proofs::ColumnFacts::columns_end, crate::proofs::ColumnFacts::input_is_wire, crate::proofs::ColumnFacts::tells_columns))]
 pub fn columns_of(
     alloc: Global,
     row: &ByteRecord,
