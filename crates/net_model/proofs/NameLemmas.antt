@@ -1,6 +1,6 @@
 -- What a map of names answers once one more wire has its name in it.
 use Rattle.std.proofs.Common.{◌≡◌, ℕ, zero, suc, ◌+◌, ◌<◌, ◌≤◌, Bool, true, false, not, List, [], ◌∷◌, ◌++◌, map, length, get_or, take, take-suc, refl, sym, ap, ap₂, ◌∙◌, subst, arith, add-one, cond, if◌then◌else◌, Option, Some, None, true≢false}
-use Rattle.std.specs.Prelude.{bytes_eq, option_map, position}
+use Rattle.std.specs.Prelude.{bytes_eq, option_map}
 use Rattle.std.specs.Global.{Vec}
 use Rattle.std.specs.List.{list_any, position_from}
 use Rattle.std.specs.Map.{lookup}
@@ -13,7 +13,7 @@ use Rattle.net_model.specs.declared.wires.WireNo.{WireNo}
 use Rattle.net_model.specs.declared.wires.Wire.{Wire}
 use Rattle.net_model.specs.Wires.{NetData, no_wire, place_of}
 use Rattle.net_model.specs.Validity.{IsValid, are_distinct}
-use Rattle.net_model.specs.NameMap.{number_at, HasNumbersOf}
+use Rattle.net_model.specs.NameMap.{HasNumbersOf}
 use Rattle.net_model.proofs.ValidityFacts.{conditions}
 use Rattle.net_model.proofs.DraftLemmas.{bytes_eq_comm}
 

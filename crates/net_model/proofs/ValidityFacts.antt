@@ -11,8 +11,6 @@ use Rattle.fx_core.specs.declared.word_type.Ty.{Ty}
 use Rattle.fx_routines.specs.declared.operation.ArithOp.{ArithOp}
 use Rattle.fx_routines.specs.declared.operation.ArithOp.TheVariants.{Abs, MulDiv, Limit, Min, Max, RateLimiter}
 use Rattle.fx_routines.specs.declared.operation.Variant.{Variant}
-use Rattle.fx_routines.specs.declared.table.Routine.TheVariants as routine
-use Rattle.fx_routines.specs.Names.{takes}
 use Rattle.mfx_arith.specs.Operations.{Takes, argument_types}
 use Rattle.mfx_arith.proofs.TypesTaken.{taken}
 use Rattle.fx_routines.specs.declared.operation.ScaledOp.{ScaledOp}
@@ -234,7 +232,6 @@ arith-valid net i op v x y z sh h lt e = good_arith _ _ _ _ op _ _ _ _ _ (good_i
 
 -- a block with binary points, likewise
 pub record IsGoodScaled (wires : List Wire) (i : ℕ) (kind : Kind) (op : ScaledOp) (v : Variant) (x y : WireNo) : Type 0 where
-  pub taken : takes (routine.Scaled op) v ≡ true
   pub first : IsGiven wires i x (slice_get (scaled_types op v) 0) x
   pub second : IsGiven wires i x (slice_get (scaled_types op v) 1) y
   pub earlier_x : x.0 < i
@@ -253,7 +250,6 @@ good_scaled wires i name kind op v x y h =
     let args = three_given wires i (Scaled op v x y) x y x refl refl refl h.earlier a2.1 in
     let x_below = first_scaled_earlier wires i op v x args.first in
     record {
-      taken = a2.0;
       first = args.first;
       second = args.second;
       earlier_x = x_below;

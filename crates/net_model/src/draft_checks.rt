@@ -20,7 +20,7 @@ pub const MOST_WIRES: usize = 512;
 
 /// Where a draft breaks a condition, and which: the number of the wire, or the number of wires for a
 /// fault of no wire.
-#[derive(Clone, Copy, Debug, PartialEq, Eq)]
+#[derive(Clone, Copy)]
 pub struct Fault {
     pub wire: u32,
     pub kind: NetKind,
@@ -71,14 +71,14 @@ fn check_wire(wires: &[Wire], i: usize) -> Result<(), NetKind>
     ensures named { OnOk result (is_name (wire_at wires.now i).name ≡ true) }
 {
     let Wire { name, kind, item } = &wires[i];
-    demand(!has_name(&wires[..i], name.bytes()), NetKind::Repeated)?;
-    demand(is_built_item(*item), NetKind::NotBuilt)?;
-    demand(item_reads_earlier(i, *item), NetKind::LaterWire)?;
-    demand(item_agrees(wires, *kind, *item), NetKind::TypeDiffers)?;
-    demand(
+    demand!(!has_name(&wires[..i], name.bytes()), NetKind::Repeated);
+    demand!(is_built_item(*item), NetKind::NotBuilt);
+    demand!(item_reads_earlier(i, *item), NetKind::LaterWire);
+    demand!(item_agrees(wires, *kind, *item), NetKind::TypeDiffers);
+    demand!(
         is_good_kind(*kind) && item_in_range(*kind, *item),
-        NetKind::OutOfRange,
-    )?;
+        NetKind::OutOfRange
+    );
     has_room(i)
 }
 
@@ -164,7 +164,7 @@ fn check_outs(outs: &[WireNo], count: usize) -> Result<(), NetKind>
 fn check_out(above: &[WireNo], out: WireNo, count: usize) -> Result<(), NetKind>
     ensures { result ≡ out_tested count above.now out }
 {
-    demand(!is_among(above, out), NetKind::Repeated)?;
+    demand!(!is_among(above, out), NetKind::Repeated);
     demand((out.0 as usize) < count, NetKind::LaterWire)
 }
 

@@ -15,8 +15,8 @@ pub fn input_numbers(alloc: Global, wires: &[Wire]) -> Result<Vec<WireNo>, Alloc
     ensures { IfOk result (λ v. v.items ≡ inputs_of wires.now) }
 {
     let mut numbers = Vec::new(alloc);
-    for (i, wire) in wires.iter().enumerate() {
-        if wire.item.is_input() {
+    for i in 0..wires.len() {
+        if wires[i].item.is_input() {
             numbers.push(WireNo(i as u32))?;
         }
     }

@@ -194,6 +194,15 @@ are_known lines wires routine words =
     axis_passes (is_known lines wires) (nth words 2)
     && is_known lines wires (argument_at routine words 0) && is_known lines wires (argument_at routine words 1) && is_known lines wires (argument_at routine words 2)
 
+-- what a wire line gives once its form and its names are tested
+abbrev pub given_line : List Wire → Routine → List (List ℕ) → Result Content NetKind
+given_line wires routine words = do
+  given ← arguments_of wires routine words
+  kind ← agreed wires (block_of routine given 0) (nth words 2)
+  sh ← shift_of routine words
+  _ ← has_room wires
+  Ok (record { kind = kind; item = OfBlock (block_of routine given sh) })
+
 -- `wire NAME TYPE = ROUTINE ARG ..`
 unfoldable pub wire_line : List (List ℕ) → List Wire → List (List ℕ) → Result Content NetKind
 wire_line lines wires words = do
@@ -204,11 +213,7 @@ wire_line lines wires words = do
   _ ← demand (length words == words_wanted routine) BadCount
   _ ← demand (are_known lines wires routine words) UnknownName
   _ ← demand (axis_passes (is_wire wires) (nth words 2)) LaterWire
-  given ← arguments_of wires routine words
-  kind ← agreed wires (block_of routine given 0) (nth words 2)
-  sh ← shift_of routine words
-  _ ← has_room wires
-  Ok (record { kind = kind; item = OfBlock (block_of routine given sh) })
+  given_line wires routine words
 
 -- a line that isn't built: its count of words, its name and its type are tested first
 unfoldable pub unbuilt_line : Bool → Bool → List Wire → List (List ℕ) → Result Content NetKind

@@ -2,8 +2,10 @@
 ghost use Rattle.std.specs.Prelude.{◌≡◌};
 ghost use Rattle.net_text.specs.Forms.{keyword_of};
 
+use crate::literal::is_literal;
+
 /// The form of a line that defines its second word.
-#[derive(Clone, Copy, Debug, PartialEq, Eq)]
+#[derive(Clone, Copy)]
 pub enum Keyword {
     InLine,
     ConstLine,
@@ -21,31 +23,31 @@ pub enum Keyword {
 pub fn keyword_of(word: &[u8]) -> Option<Keyword>
     ensures { result ≡ keyword_of word.now }
 {
-    if word == b"in".as_slice() {
+    if is_literal(word, b"in") {
         return Some(Keyword::InLine);
     }
-    if word == b"const".as_slice() {
+    if is_literal(word, b"const") {
         return Some(Keyword::ConstLine);
     }
-    if word == b"axis".as_slice() {
+    if is_literal(word, b"axis") {
         return Some(Keyword::AxisLine);
     }
-    if word == b"axisstep".as_slice() {
+    if is_literal(word, b"axisstep") {
         return Some(Keyword::AxisStepLine);
     }
-    if word == b"axisshift".as_slice() {
+    if is_literal(word, b"axisshift") {
         return Some(Keyword::AxisShiftLine);
     }
-    if word == b"table".as_slice() {
+    if is_literal(word, b"table") {
         return Some(Keyword::TableLine);
     }
-    if word == b"map".as_slice() {
+    if is_literal(word, b"map") {
         return Some(Keyword::MapLine);
     }
-    if word == b"wire".as_slice() {
+    if is_literal(word, b"wire") {
         return Some(Keyword::WireLine);
     }
-    if word == b"delay".as_slice() {
+    if is_literal(word, b"delay") {
         return Some(Keyword::DelayLine);
     }
     None

@@ -5,6 +5,7 @@
 mod definitions;
 mod keyword;
 mod line_forms;
+mod literal;
 mod printing;
 mod reader;
 mod routine_word;

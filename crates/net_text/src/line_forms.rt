@@ -5,10 +5,11 @@ ghost use Rattle.text_words.specs.Lines.{lines_of, nth, words_of};
 ghost use Rattle.text_words.specs.Names.{is_name};
 ghost use Rattle.net_model.specs.Wires.{place_of};
 ghost use Rattle.net_text.specs.TypeWords.{ty_of};
-ghost use Rattle.net_text.specs.Forms.{AreBelow, agreed, are_known, argument_word, arguments_of, axis_passes, const_line, defining_line, delay_line, fresh, has_room, in_line, is_known, is_narrow, is_output, is_type, is_wire, kind_at, line_of, list_line, map_line, out_line, places_at, range_of, reached, shift_of, spaced_line, unbuilt_line, value_of, wire_line, words_wanted};
+ghost use Rattle.net_text.specs.Forms.{AreBelow, agreed, are_known, argument_word, arguments_of, axis_passes, const_line, defining_line, delay_line, fresh, given_line, in_line, is_known, is_narrow, is_output, is_type, is_wire, line_of, list_line, map_line, out_line, places_at, range_of, reached, shift_of, spaced_line, unbuilt_line, value_of, wire_line, words_wanted};
 
 use crate::definitions::is_defined;
 use crate::keyword::{Keyword, keyword_of};
+use crate::literal::is_literal;
 use crate::routine_word::{
     Arguments, Routine, arity_of, block_of, is_shifting, routine_at, types_of,
 };
@@ -24,7 +25,7 @@ use text_words::{count_words, demand, is_name, number, word_at};
 const FIRST_ARGUMENT: usize = 5;
 
 /// What a line gives its wire besides the name.
-#[derive(Clone, Copy, Debug, PartialEq, Eq)]
+#[derive(Clone, Copy)]
 pub struct Content {
     pub kind: Kind,
     pub item: Item,
@@ -39,8 +40,10 @@ pub fn defining_line(text: &[u8], wires: &[Wire], line: &[u8]) -> Result<Content
     ensures room { OnOk result (length wires.now < 512) }
     ensures name { OnOk result (is_name (nth (words_of line.now) 1) ≡ true) }
 {
-    let keyword = keyword_of(word_at(line, 0)).ok_or(NetKind::BadLine)?;
-    line_of(keyword, text, wires, line)
+    match keyword_of(word_at(line, 0)) {
+        Some(keyword) => line_of(keyword, text, wires, line),
+        None => Err(NetKind::BadLine),
+    }
 }
 
 #[tactic(auto, unfolding(crate::specs::Forms::line_of))]
@@ -70,11 +73,13 @@ fn in_line(wires: &[Wire], line: &[u8]) -> Result<Content, NetKind>
     ensures room { OnOk result (length wires.now < 512) }
     ensures name { OnOk result (is_name (nth (words_of line.now) 1) ≡ true) }
 {
-    demand(count_words(line) == 5, NetKind::BadLine)?;
+    demand!(count_words(line) == 5, NetKind::BadLine);
     fresh(wires, word_at(line, 1))?;
-    let kind = kind_at(word_at(line, 2))?;
+    let Some(kind) = kind_of(word_at(line, 2)) else {
+        return Err(NetKind::BadType);
+    };
     let item = range_of(kind, word_at(line, 3), word_at(line, 4))?;
-    has_room(wires)?;
+    demand!(wires.len() < MOST_WIRES, NetKind::TooMany);
     Ok(Content { kind, item })
 }
 
@@ -85,11 +90,13 @@ fn const_line(wires: &[Wire], line: &[u8]) -> Result<Content, NetKind>
     ensures room { OnOk result (length wires.now < 512) }
     ensures name { OnOk result (is_name (nth (words_of line.now) 1) ≡ true) }
 {
-    demand(count_words(line) == 4, NetKind::BadLine)?;
+    demand!(count_words(line) == 4, NetKind::BadLine);
     fresh(wires, word_at(line, 1))?;
-    let kind = kind_at(word_at(line, 2))?;
+    let Some(kind) = kind_of(word_at(line, 2)) else {
+        return Err(NetKind::BadType);
+    };
     let item = value_of(kind, word_at(line, 3))?;
-    has_room(wires)?;
+    demand!(wires.len() < MOST_WIRES, NetKind::TooMany);
     Ok(Content { kind, item })
 }
 
@@ -101,20 +108,29 @@ fn wire_line(text: &[u8], wires: &[Wire], line: &[u8]) -> Result<Content, NetKin
     ensures room { OnOk result (length wires.now < 512) }
     ensures name { OnOk result (is_name (nth (words_of line.now) 1) ≡ true) }
 {
-    demand(is_wire_form(line), NetKind::BadLine)?;
+    demand!(is_wire_form(line), NetKind::BadLine);
     fresh(wires, word_at(line, 1))?;
-    demand(is_type(word_at(line, 2)), NetKind::BadType)?;
+    demand!(is_type(word_at(line, 2)), NetKind::BadType);
     let routine = routine_at(word_at(line, 4))?;
-    demand(
+    demand!(
         count_words(line) == words_wanted(routine),
-        NetKind::BadCount,
-    )?;
-    demand(are_known(text, wires, routine, line), NetKind::UnknownName)?;
-    demand(axis_is_reached(wires, word_at(line, 2)), NetKind::LaterWire)?;
+        NetKind::BadCount
+    );
+    demand!(are_known(text, wires, routine, line), NetKind::UnknownName);
+    demand!(axis_is_reached(wires, word_at(line, 2)), NetKind::LaterWire);
+    given_line(wires, routine, line)
+}
+
+// What a wire line gives once its form and its names are tested.
+fn given_line(wires: &[Wire], routine: Routine, line: &[u8]) -> Result<Content, NetKind>
+    requires { length wires.now ≤ 512 }
+    ensures value { result ≡ given_line wires.now routine (words_of line.now) }
+    ensures room { OnOk result (length wires.now < 512) }
+{
     let given = arguments_of(wires, routine, line)?;
     let kind = agreed(wires, block_of(routine, given, 0), word_at(line, 2))?;
     let sh = shift_of(routine, line)?;
-    has_room(wires)?;
+    demand!(wires.len() < MOST_WIRES, NetKind::TooMany);
     let item = Item::Block(block_of(routine, given, sh));
     Ok(Content { kind, item })
 }
@@ -130,9 +146,9 @@ fn unbuilt_line(
     ensures value { result ≡ unbuilt_line has_form has_type wires.now (words_of line.now) }
     ensures none { OnOk result (true ≡ false) }
 {
-    demand(has_form, NetKind::BadLine)?;
+    demand!(has_form, NetKind::BadLine);
     fresh(wires, word_at(line, 1))?;
-    demand(has_type, NetKind::BadType)?;
+    demand!(has_type, NetKind::BadType);
     Err(NetKind::NotBuilt)
 }
 
@@ -172,7 +188,7 @@ fn delay_line(wires: &[Wire], line: &[u8]) -> Result<Content, NetKind>
 fn is_delay_form(line: &[u8]) -> bool
     ensures { result ≡ ((length (words_of line.now) == 6) && bytes_eq (nth (words_of line.now) 4) (codes "=")) }
 {
-    count_words(line) == 6 && word_at(line, 4) == b"=".as_slice()
+    count_words(line) == 6 && is_literal(word_at(line, 4), b"=")
 }
 
 /// The wire that an `out NAME` names, given the outputs above.
@@ -186,11 +202,11 @@ pub fn out_line(
     requires { length wires.now ≤ 512 }
     ensures { result ≡ out_line (lines_of text.now) wires.now outs.now (words_of line.now) }
 {
-    demand(count_words(line) == 2, NetKind::BadLine)?;
+    demand!(count_words(line) == 2, NetKind::BadLine);
     let name = word_at(line, 1);
-    demand(is_name(name), NetKind::BadName)?;
-    demand(!is_output(outs, place_of(wires, name)), NetKind::Repeated)?;
-    demand(is_known(text, wires, name), NetKind::UnknownName)?;
+    demand!(is_name(name), NetKind::BadName);
+    demand!(!is_output(outs, place_of(wires, name)), NetKind::Repeated);
+    demand!(is_known(text, wires, name), NetKind::UnknownName);
     let place = reached(wires, name)?;
     Ok(WireNo(place as u32))
 }
@@ -205,7 +221,7 @@ fn words_wanted(routine: Routine) -> usize
 fn is_wire_form(line: &[u8]) -> bool
     ensures { result ≡ (nat_le 6 (length (words_of line.now)) && bytes_eq (nth (words_of line.now) 3) (codes "=")) }
 {
-    count_words(line) >= 6 && word_at(line, 3) == b"=".as_slice()
+    count_words(line) >= 6 && is_literal(word_at(line, 3), b"=")
 }
 
 #[tactic(auto, unfolding(crate::specs::Forms::fresh))]
@@ -213,19 +229,9 @@ fn fresh(wires: &[Wire], name: &[u8]) -> Result<(), NetKind>
     ensures value { result ≡ fresh wires.now name.now }
     ensures name { OnOk result (is_name name.now ≡ true) }
 {
-    demand(is_name(name), NetKind::BadName)?;
-    demand(!is_wire(wires, name), NetKind::Repeated)
-}
-
-fn has_room(wires: &[Wire]) -> Result<(), NetKind>
-    ensures value { result ≡ has_room wires.now }
-    ensures room { OnOk result (length wires.now < 512) }
-{
-    if wires.len() < MOST_WIRES {
-        Ok(())
-    } else {
-        Err(NetKind::TooMany)
-    }
+    demand!(is_name(name), NetKind::BadName);
+    demand!(!is_wire(wires, name), NetKind::Repeated);
+    Ok(())
 }
 
 // ---- names
@@ -288,7 +294,10 @@ fn reached(wires: &[Wire], name: &[u8]) -> Result<usize, NetKind>
     ensures value { result ≡ reached wires.now name.now }
     ensures within { IfOk result (λ place. place < length wires.now) }
 {
-    place_of(wires, name).ok_or(NetKind::LaterWire)
+    match place_of(wires, name) {
+        Some(place) => Ok(place),
+        None => Err(NetKind::LaterWire),
+    }
 }
 
 // The wires that a routine is given.
@@ -330,9 +339,13 @@ fn has_number(outs: &[WireNo], place: usize) -> bool
 fn range_of(kind: Kind, low: &[u8], high: &[u8]) -> Result<Item, NetKind>
     ensures { result ≡ range_of kind low.now high.now }
 {
-    let lo = number(low).ok_or(NetKind::BadNumber)?;
-    let hi = number(high).ok_or(NetKind::BadNumber)?;
-    demand(is_range(kind, lo, hi), NetKind::OutOfRange)?;
+    let Some(lo) = number(low) else {
+        return Err(NetKind::BadNumber);
+    };
+    let Some(hi) = number(high) else {
+        return Err(NetKind::BadNumber);
+    };
+    demand!(is_range(kind, lo, hi), NetKind::OutOfRange);
     Ok(Item::Input { lo, hi })
 }
 
@@ -340,8 +353,10 @@ fn range_of(kind: Kind, low: &[u8], high: &[u8]) -> Result<Item, NetKind>
 fn value_of(kind: Kind, word: &[u8]) -> Result<Item, NetKind>
     ensures { result ≡ value_of kind word.now }
 {
-    let value = number(word).ok_or(NetKind::BadNumber)?;
-    demand(kind_holds(kind, value), NetKind::OutOfRange)?;
+    let Some(value) = number(word) else {
+        return Err(NetKind::BadNumber);
+    };
+    demand!(kind_holds(kind, value), NetKind::OutOfRange);
     Ok(Item::Const { value })
 }
 
@@ -361,8 +376,10 @@ fn shift_of(routine: Routine, line: &[u8]) -> Result<u8, NetKind>
 fn places_at(word: &[u8]) -> Result<u8, NetKind>
     ensures { result ≡ places_at word.now }
 {
-    let sh = number(word).ok_or(NetKind::BadNumber)?;
-    demand(is_places(sh), NetKind::OutOfRange)?;
+    let Some(sh) = number(word) else {
+        return Err(NetKind::BadNumber);
+    };
+    demand!(is_places(sh), NetKind::OutOfRange);
     Ok(sh as u8)
 }
 
@@ -373,12 +390,6 @@ fn is_places(sh: i64) -> bool
 }
 
 // ---- types
-
-fn kind_at(word: &[u8]) -> Result<Kind, NetKind>
-    ensures { result ≡ kind_at word.now }
-{
-    kind_of(word).ok_or(NetKind::BadType)
-}
 
 fn is_type(word: &[u8]) -> bool
     ensures { result ≡ is_type word.now }
@@ -404,7 +415,9 @@ fn is_narrow(ty: Option<Ty>) -> bool
 fn agreed(wires: &[Wire], block: Block, word: &[u8]) -> Result<Kind, NetKind>
     ensures { result ≡ agreed wires.now block word.now }
 {
-    let kind = kind_of(word).ok_or(NetKind::TypeDiffers)?;
-    demand(agrees(wires, kind, block), NetKind::TypeDiffers)?;
+    let Some(kind) = kind_of(word) else {
+        return Err(NetKind::TypeDiffers);
+    };
+    demand!(agrees(wires, kind, block), NetKind::TypeDiffers);
     Ok(kind)
 }

@@ -8,6 +8,7 @@ ghost use Rattle.net_model.specs.Drafts.{data_of};
 ghost use Rattle.net_text.specs.Text.{Gives, Reads, after_definition, after_line, after_out, ended, is_head, located, network_of, no_head, walked};
 
 use crate::line_forms::{Content, defining_line, out_line};
+use crate::literal::is_literal;
 use net_model::{Draft, Name, NameFault, NetKind, NetRefusal, Network, Wire, WireNo, has_ends};
 use std::alloc::Global;
 use text_words::{count_words, next_line, without_mark, word_at};
@@ -98,8 +99,8 @@ fn from_first(
 fn is_head(line: &[u8]) -> bool
     ensures { result ≡ is_head (words_of line.now) }
 {
-    word_at(line, 0) == b"net".as_slice()
-        && word_at(line, 1) == b"1".as_slice()
+    is_literal(word_at(line, 0), b"net")
+        && is_literal(word_at(line, 1), b"1")
         && count_words(line) == 2
 }
 
@@ -138,7 +139,7 @@ fn after_line(
     if count_words(line) == 0 {
         return Ok(draft);
     }
-    if word_at(line, 0) == b"out".as_slice() {
+    if is_literal(word_at(line, 0), b"out") {
         return after_out(text, draft, number, line);
     }
     after_definition(alloc, text, draft, number, line)

@@ -10,14 +10,14 @@ use net_model::{
 };
 
 /// A routine: what it computes, and its types.
-#[derive(Clone, Copy, Debug, PartialEq, Eq)]
+#[derive(Clone, Copy)]
 pub enum Routine {
     ArithOf(ArithOp, Variant),
     ScaledOf(ScaledOp, Variant),
 }
 
 /// The wires that a routine is given. One that it doesn't have repeats the first.
-#[derive(Clone, Copy, Debug, PartialEq, Eq)]
+#[derive(Clone, Copy)]
 pub struct Arguments {
     pub x: WireNo,
     pub y: WireNo,
@@ -29,8 +29,10 @@ pub struct Arguments {
 pub fn routine_at(word: &[u8]) -> Result<Routine, NetKind>
     ensures { result ≡ routine_at word.now }
 {
-    let (routine, v) = routine_named(word).ok_or(NetKind::UnknownRoutine)?;
-    built_at(routine, v)
+    match routine_named(word) {
+        Some((routine, v)) => built_at(routine, v),
+        None => Err(NetKind::UnknownRoutine),
+    }
 }
 
 fn built_at(routine: Named, v: Variant) -> Result<Routine, NetKind>

@@ -2,6 +2,7 @@
 ghost use Rattle.std.specs.Prelude.{◌≡◌, ◌≤◌, length};
 ghost use Rattle.net_text.specs.TypeWords.{axis_name, is_position, kind_of, number_kind_of, one_digit, point_of_word, two_digits, ty_len, ty_of};
 
+use crate::literal::is_literal;
 use fx_core::Ty;
 use net_model::Kind;
 use text_words::is_name;
@@ -14,7 +15,7 @@ const GREATEST_POINT: u8 = 15;
 pub fn kind_of(word: &[u8]) -> Option<Kind>
     ensures { result ≡ kind_of word.now }
 {
-    if word == b"bool".as_slice() {
+    if is_literal(word, b"bool") {
         return Some(Kind::Truth);
     }
     number_kind_of(word)
@@ -42,22 +43,22 @@ fn ty_len(word: &[u8]) -> usize
 pub fn ty_of(name: &[u8]) -> Option<Ty>
     ensures { result ≡ ty_of name.now }
 {
-    if name == b"u8".as_slice() {
+    if is_literal(name, b"u8") {
         return Some(Ty::U8);
     }
-    if name == b"s8".as_slice() {
+    if is_literal(name, b"s8") {
         return Some(Ty::S8);
     }
-    if name == b"u16".as_slice() {
+    if is_literal(name, b"u16") {
         return Some(Ty::U16);
     }
-    if name == b"s16".as_slice() {
+    if is_literal(name, b"s16") {
         return Some(Ty::S16);
     }
-    if name == b"u32".as_slice() {
+    if is_literal(name, b"u32") {
         return Some(Ty::U32);
     }
-    if name == b"s32".as_slice() {
+    if is_literal(name, b"s32") {
         return Some(Ty::S32);
     }
     None
