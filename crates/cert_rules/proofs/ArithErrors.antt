@@ -2,7 +2,6 @@
 use Rattle.std.specs.Prelude.{ℤ, ◌+ℤ◌, ◌≤ℤ◌}
 use Rattle.std.specs.Int.{int_max}
 use Rattle.std.proofs.Common.{arith}
-use Rattle.std.proofs.lemmas.Int.{ints, clamps}
 use Rattle.fx_fraction.specs.Fraction.{Fraction, over, plus, minus, lesser, greater, absolute, distance, AtMost}
 use Rattle.fx_fraction.proofs.WholeNumbers.{int_le_refl}
 use Rattle.fx_fraction.proofs.Denominators.{is_over, is_plus, is_greater, AtMost-in}
@@ -50,14 +49,3 @@ near_greater a a' b b' err fel p q = record {
   near = AtMost_trans (distance (greater a b) (greater a' b')) (greater (distance a a') (distance b b')) (over (int_max err fel) 65536) (distance-greater a b a' b')
       (AtMost_trans (greater (distance a a') (distance b b')) (greater (over err 65536) (over fel 65536)) (over (int_max err fel) 65536) (AtMost-greater (distance a a') (over err 65536) (distance b b') (over fel 65536) p.near q.near) (larger_error err fel));
 }
-
--- two numbers are at most their larger
-pub int_max_left : (a b : ℤ) → a ≤ℤ int_max a b
-int_max_left a b = omega (arith, ints, clamps)
-
-pub int_max_right : (a b : ℤ) → b ≤ℤ int_max a b
-int_max_right a b = omega (arith, ints, clamps)
-
--- and their larger is at most what both are
-pub int_max_below : (a b c : ℤ) → a ≤ℤ c → b ≤ℤ c → int_max a b ≤ℤ c
-int_max_below a b c h k = omega (arith, ints, clamps)

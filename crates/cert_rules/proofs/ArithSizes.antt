@@ -23,10 +23,6 @@ product_size (pos x) (pos y) m n p q h k = int_le-pos _ _ (mul-le-mul (le_of-int
 product_size (negsuc x) y m n p q h k = absurd p.le
 product_size (pos x) (negsuc y) m n p q h k = absurd q.le
 
--- a number that isn't negative and has at most 126 bits, as a word
-pub word_is : (z : ℤ) → pos 0 ≤ℤ z → z <ℤ pos (2 ^ 126) → word z ≡ z
-word_is z low high = omega (arith, ints, low, high)
-
 pub is_below : (z : ℤ) (m n : ℕ) → z ≤ℤ pos m → m < n → z <ℤ pos n
 is_below z m n h k = omega (arith, ints, h, k)
 

@@ -2,7 +2,7 @@
 use Rattle.std.specs.Prelude.{◌≡◌, ℕ, ◌+◌, ◌*◌, ◌≤◌, ◌<◌, ℤ, pos, ◌+ℤ◌, ◌-ℤ◌, ◌*ℤ◌, ◌≤ℤ◌, unsigned_abs}
 use Rattle.std.proofs.Common.{sym, ap, arith, mul-le-mul_right, le_of_lt}
 use Rattle.fx_fraction.proofs.Polynomials.{differences, as_difference, same}
-use Rattle.fx_fraction.proofs.WholeNumbers.{int_le_trans, int_le-add, int_le-pos, int_le-mul_pos, int_add-mul, int_mul_right_comm, unsigned_abs-sub-add_le, unsigned_abs-triangle, unsigned_abs-sub-mul, int_le_of-eq}
+use Rattle.fx_fraction.proofs.WholeNumbers.{int_le_trans, int_le-add, int_le-pos, int_le-mul_pos, int_add-mul, int_mul_right_comm, unsigned_abs-triangle, unsigned_abs-sub-mul, int_le_of-eq}
 
 pub record IsNear (s d : ℕ) (m x err : ℤ) : Type 0 where
   pub near : (pos (unsigned_abs (m *ℤ pos d -ℤ x)) *ℤ pos s) ≤ℤ (err *ℤ pos d)
@@ -13,12 +13,6 @@ two_errors a b c s d err fel h p q =
     let wide : (pos a *ℤ pos s) ≤ℤ ((pos b +ℤ pos c) *ℤ pos s) = int_le-mul_pos (pos a) (pos b +ℤ pos c) s (int_le-pos a (b + c) h) in
     let both : (pos b *ℤ pos s +ℤ pos c *ℤ pos s) ≤ℤ (err *ℤ pos d +ℤ fel *ℤ pos d) = int_le-add _ _ _ _ p q in
     int_le_trans _ _ _ wide (rw (int_add-mul (pos b) (pos c) (pos s), int_add-mul err fel (pos d)) both)
-
--- a sum errs by the errors together
-pub near-plus : (s d : ℕ) (m n x y err fel : ℤ) → IsNear s d m x err → IsNear s d n y fel → IsNear s d (m +ℤ n) (x +ℤ y) (err +ℤ fel)
-near-plus s d m n x y err fel p q = record {
-  near = two_errors _ _ _ s d err fel (rw (int_add-mul m n (pos d)) (unsigned_abs-sub-add_le (m *ℤ pos d) (n *ℤ pos d) x y)) p.near q.near;
-}
 
 -- a whole factor multiplies the error
 pub near-times : (s d k : ℕ) (m x err : ℤ) → IsNear s d m x err → IsNear s d (m *ℤ pos k) (x *ℤ pos k) (err *ℤ pos k)

@@ -38,3 +38,4 @@ pub mod AcceptanceLaws
 pub mod ArgumentExamples
 pub mod ArgumentSearch
 pub mod ArgumentLaw
+pub mod WordSteps

@@ -11,8 +11,8 @@ ghost use Rattle.cert_rules.specs.ArithRules.{arith_error, arith_may_divide_by_z
 ghost use Rattle.cert_rules.specs.ScaledRules.{raised_quotient_error};
 ghost use Rattle.cert_rules.specs.Entries.{IsSmall};
 
-use crate::arith_values::{greater, lesser, power_of_two};
 use crate::bounds::Bounds;
+use crate::whole_numbers::{greater, lesser, power_of_two};
 use fx_core::ceil_div;
 use mfx_arith::ArithOp;
 

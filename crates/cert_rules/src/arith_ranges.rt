@@ -9,8 +9,9 @@ ghost use Rattle.cert_rules.specs.ArithSoundness.{has_rule};
 ghost use Rattle.cert_rules.specs.Entries.{IsSmall};
 ghost use Rattle.cert_rules.specs.Ranges.{greatest_among, least_among};
 
-use crate::arith_values::{greater, lesser, value_at};
+use crate::arith_values::value_at;
 use crate::bounds::Bounds;
+use crate::whole_numbers::{Whole, greater, lesser};
 use mfx_arith::ArithOp;
 
 /// The numbers from `lo` to `hi`.
@@ -22,13 +23,13 @@ pub(crate) struct Range {
 
 impl Range {
     /// One number.
-    pub(crate) fn at(number: i128) -> Range
-        ensures lo { result.lo ≡ number }
-        ensures hi { result.hi ≡ number }
+    pub(crate) fn at(value: Whole) -> Range
+        ensures lo { result.lo ≡ value.number }
+        ensures hi { result.hi ≡ value.number }
     {
         Range {
-            lo: number,
-            hi: number,
+            lo: value.number,
+            hi: value.number,
         }
     }
 
@@ -50,7 +51,7 @@ impl Range {
         ensures hi { result.hi ≡ (if int_le inside.lo (pos 0) && int_le (pos 0) inside.hi then int_max self.hi (pos 0) else self.hi) }
     {
         if inside.lo <= 0 && 0 <= inside.hi {
-            self.joined(Range::at(0))
+            self.joined(Range::at(Whole::of_count(0)))
         } else {
             self
         }
@@ -58,38 +59,36 @@ impl Range {
 }
 
 // The values over the ends of the third argument's range.
-#[tactic(auto, unfolding(crate::specs::ArithCorners::least_over_third, crate::specs::ArithCorners::greatest_over_third))]
-fn over_third(op: ArithOp, shift: u8, x: i64, y: i64, z: Bounds) -> Range
+fn over_third(op: ArithOp, shift: u8, x: Whole, y: Whole, z: Bounds) -> Range
     requires rule { IsTrue (has_rule op) }
     requires shift { shift ≤ 15 }
-    requires first { unsigned_abs x < 2 ^ 32 }
-    requires second { unsigned_abs y < 2 ^ 32 }
+    requires first { unsigned_abs x.number < 2 ^ 32 }
+    requires second { unsigned_abs y.number < 2 ^ 32 }
     requires third { IsSmall z }
-    requires low_divisor { HasDivisor op y z.lo }
-    requires high_divisor { HasDivisor op y z.hi }
-    ensures lo { result.lo ≡ least_over_third op shift x y z }
-    ensures hi { result.hi ≡ greatest_over_third op shift x y z }
+    requires low_divisor { HasDivisor op y.number z.lo }
+    requires high_divisor { HasDivisor op y.number z.hi }
+    ensures lo { result.lo ≡ least_over_third op shift x.number y.number z }
+    ensures hi { result.hi ≡ greatest_over_third op shift x.number y.number z }
 {
-    Range::at(value_at(op, shift, x, y, z.lo)).joined(Range::at(value_at(op, shift, x, y, z.hi)))
+    let (low, high) = (low_end(z), high_end(z));
+    Range::at(value_at(op, shift, x, y, low)).joined(Range::at(value_at(op, shift, x, y, high)))
 }
 
 // The values over the ends of the second and of the third argument's range.
-#[tactic(auto, unfolding(crate::specs::ArithCorners::least_over_second, crate::specs::ArithCorners::greatest_over_second))]
-fn over_second(op: ArithOp, shift: u8, x: i64, y: Bounds, z: Bounds) -> Range
+fn over_second(op: ArithOp, shift: u8, x: Whole, y: Bounds, z: Bounds) -> Range
     requires rule { IsTrue (has_rule op) }
     requires shift { shift ≤ 15 }
-    requires first { unsigned_abs x < 2 ^ 32 }
+    requires first { unsigned_abs x.number < 2 ^ 32 }
     requires second { IsSmall y }
     requires third { IsSmall z }
     requires divisor { HasDivisorsAtEnds op y z }
-    ensures lo { result.lo ≡ least_over_second op shift x y z }
-    ensures hi { result.hi ≡ greatest_over_second op shift x y z }
+    ensures lo { result.lo ≡ least_over_second op shift x.number y z }
+    ensures hi { result.hi ≡ greatest_over_second op shift x.number y z }
 {
-    over_third(op, shift, x, y.lo, z).joined(over_third(op, shift, x, y.hi, z))
+    over_third(op, shift, x, low_end(y), z).joined(over_third(op, shift, x, high_end(y), z))
 }
 
 // The values at all corners.
-#[tactic(auto, unfolding(crate::specs::ArithCorners::least_at_corners, crate::specs::ArithCorners::greatest_at_corners))]
 fn at_corners(op: ArithOp, shift: u8, x: Bounds, y: Bounds, z: Bounds) -> Range
     requires rule { IsTrue (has_rule op) }
     requires shift { shift ≤ 15 }
@@ -100,7 +99,7 @@ fn at_corners(op: ArithOp, shift: u8, x: Bounds, y: Bounds, z: Bounds) -> Range
     ensures lo { result.lo ≡ least_at_corners op shift x y z }
     ensures hi { result.hi ≡ greatest_at_corners op shift x y z }
 {
-    over_second(op, shift, x.lo, y, z).joined(over_second(op, shift, x.hi, y, z))
+    over_second(op, shift, low_end(x), y, z).joined(over_second(op, shift, high_end(x), y, z))
 }
 
 /// The range of an operation's value.
@@ -123,8 +122,27 @@ pub(crate) fn range_of(op: ArithOp, shift: u8, x: Bounds, y: Bounds, z: Bounds) 
 }
 
 fn ends(b: Bounds) -> Range
+    requires { IsSmall b }
     ensures lo { result.lo ≡ int_min b.lo b.hi }
     ensures hi { result.hi ≡ int_max b.lo b.hi }
 {
-    Range::at(i128::from(b.lo)).joined(Range::at(i128::from(b.hi)))
+    Range::at(low_end(b)).joined(Range::at(high_end(b)))
+}
+
+/// The least number of a range.
+pub(crate) fn low_end(b: Bounds) -> Whole
+    requires { IsSmall b }
+    ensures value { result.number ≡ b.lo }
+    ensures size { unsigned_abs result.number < 2 ^ 32 }
+{
+    Whole::of_count(b.lo)
+}
+
+/// The greatest number of a range.
+pub(crate) fn high_end(b: Bounds) -> Whole
+    requires { IsSmall b }
+    ensures value { result.number ≡ b.hi }
+    ensures size { unsigned_abs result.number < 2 ^ 32 }
+{
+    Whole::of_count(b.hi)
 }

@@ -13,7 +13,7 @@ use crate::bounds::Bounds;
 use mfx_arith::ArithOp;
 
 /// Bounds before it is asked whether they are allowed: they may be wider than any bounds of a part.
-#[derive(Clone, Copy, Debug, PartialEq, Eq)]
+#[derive(Clone, Copy)]
 pub(crate) struct WideBounds {
     pub lo: i128,
     pub hi: i128,

@@ -22,6 +22,7 @@ mod scaled_laws;
 mod scaled_ranges;
 mod scaled_ruling;
 mod scaled_values;
+mod whole_numbers;
 
 pub use arguments::{argument, rules_read_their_arguments};
 pub use arith_laws::law_of_arith_rules;

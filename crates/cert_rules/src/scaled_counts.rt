@@ -6,7 +6,7 @@ ghost use Rattle.fx_core.specs.Rounding.{power};
 ghost use Rattle.mfx_scaled.specs.Counts.{raised};
 ghost use Rattle.cert_rules.specs.ScaledRules.{highest};
 
-use crate::arith_values::power_of_two;
+use crate::whole_numbers::{Whole, power_of_two};
 use mfx_scaled::Points;
 
 /// The number `number / 2^point`, exact.
@@ -27,9 +27,19 @@ pub(crate) fn exact(number: i64, point: u8) -> Count
     }
 }
 
+/// A whole number at a binary point.
+pub(crate) fn at_point(value: Whole, point: u8) -> Count
+    ensures number { result.number ≡ value.number }
+    ensures point { result.point ≡ point }
+{
+    Count {
+        number: value.number,
+        point,
+    }
+}
+
 impl Count {
     /// The same number at a binary point that isn't lower.
-    #[tactic(auto, using(crate::proofs::ScaledSizes::product_small))]
     pub(crate) fn raised(self, point: u8) -> Count
         requires size { unsigned_abs self.number < 2 ^ 74 }
         requires up { self.point ≤ point }
@@ -104,21 +114,23 @@ impl Count {
     }
 
     /// The quotient of the two numbers, rounded toward zero.
-    pub(crate) fn over(self, divisor: Count) -> i128
+    pub(crate) fn over(self, divisor: Count) -> Whole
         requires dividend { unsigned_abs self.number < 2 ^ 104 }
         requires divisor { unsigned_abs divisor.number < 2 ^ 104 }
         requires nonzero { 1 ≤ unsigned_abs divisor.number }
-        ensures { result ≡ int_div self.number divisor.number }
+        ensures { result.number ≡ int_div self.number divisor.number }
     {
-        self.number / divisor.number
+        Whole {
+            number: self.number / divisor.number,
+        }
     }
 
     /// The number at a binary point that isn't higher, rounded toward zero.
-    pub(crate) fn lowered(self, point: u8) -> i128
+    pub(crate) fn lowered(self, point: u8) -> Whole
         requires size { unsigned_abs self.number < 2 ^ 104 }
         requires down { point ≤ self.point }
         requires few { self.point ≤ 30 }
-        ensures { result ≡ int_div self.number (power (self.point - point)) }
+        ensures { result.number ≡ int_div self.number (power (self.point - point)) }
     {
         self.over(Count {
             number: power_of_two(self.point - point),
@@ -127,12 +139,12 @@ impl Count {
     }
 
     /// The number at a binary point, rounded toward zero.
-    pub(crate) fn moved(self, point: u8) -> i128
+    pub(crate) fn moved(self, point: u8) -> Whole
         requires size { unsigned_abs self.number < 2 ^ 64 }
         requires from { self.point ≤ 30 }
         requires to { point ≤ 30 }
         ensures { let high = max self.point point in
-            result ≡ int_div (raised self.number self.point high) (power (high - point)) }
+            result.number ≡ int_div (raised self.number self.point high) (power (high - point)) }
     {
         self.raised(self.point.max(point)).lowered(point)
     }

@@ -7,26 +7,26 @@ ghost use Rattle.cert_rules.specs.Ranges.{greatest_among, least_among};
 ghost use Rattle.cert_rules.specs.ScaledCorners.{AreLow, FormHasDivisor, FormHasDivisorsAtEnds, form_greatest_at_corners, form_greatest_over_second, form_least_at_corners, form_least_over_second, two};
 ghost use Rattle.cert_rules.specs.ScaledRules.{level_points, scaled_values};
 
-use crate::arith_ranges::Range;
+use crate::arith_ranges::{Range, high_end, low_end};
 use crate::bounds::Bounds;
 use crate::scaled_values::value_at;
+use crate::whole_numbers::Whole;
 use mfx_scaled::{Points, ScaledOp};
 
 // The values over the ends of the second argument's range.
-#[tactic(auto, unfolding(crate::specs::ScaledCorners::form_least_over_second, crate::specs::ScaledCorners::form_greatest_over_second))]
-fn over_second(op: ScaledOp, p: Points, x: i64, y: Bounds) -> Range
+fn over_second(op: ScaledOp, p: Points, x: Whole, y: Bounds) -> Range
     requires points { AreLow p }
-    requires first { unsigned_abs x < 2 ^ 32 }
+    requires first { unsigned_abs x.number < 2 ^ 32 }
     requires second { IsSmall y }
     requires divisor { FormHasDivisorsAtEnds op y }
-    ensures lo { result.lo ≡ form_least_over_second op p x y }
-    ensures hi { result.hi ≡ form_greatest_over_second op p x y }
+    ensures lo { result.lo ≡ form_least_over_second op p x.number y }
+    ensures hi { result.hi ≡ form_greatest_over_second op p x.number y }
 {
-    Range::at(value_at(op, p, x, y.lo)).joined(Range::at(value_at(op, p, x, y.hi)))
+    let (low, high) = (low_end(y), high_end(y));
+    Range::at(value_at(op, p, x, low)).joined(Range::at(value_at(op, p, x, high)))
 }
 
 // The values at all corners.
-#[tactic(auto, unfolding(crate::specs::ScaledCorners::form_least_at_corners, crate::specs::ScaledCorners::form_greatest_at_corners))]
 fn at_corners(op: ScaledOp, p: Points, x: Bounds, y: Bounds) -> Range
     requires points { AreLow p }
     requires first { IsSmall x }
@@ -35,7 +35,7 @@ fn at_corners(op: ScaledOp, p: Points, x: Bounds, y: Bounds) -> Range
     ensures lo { result.lo ≡ form_least_at_corners op p x y }
     ensures hi { result.hi ≡ form_greatest_at_corners op p x y }
 {
-    over_second(op, p, x.lo, y).joined(over_second(op, p, x.hi, y))
+    over_second(op, p, low_end(x), y).joined(over_second(op, p, high_end(x), y))
 }
 
 /// The range of a form's value.

@@ -5,18 +5,19 @@ ghost use Rattle.std.specs.Prelude.{◌≡◌, ◌<◌, ◌≤◌, ◌^◌, int_
 ghost use Rattle.mfx_scaled.specs.Counts.{raised};
 ghost use Rattle.cert_rules.specs.ScaledCorners.{AreLow, FormHasDivisor, form_value};
 
-use crate::scaled_counts::{Count, exact, highest};
+use crate::scaled_counts::{Count, at_point, highest};
+use crate::whole_numbers::Whole;
 use mfx_scaled::{Points, ScaledOp};
 
 /// The value of a form at the numbers of its arguments. What it doesn't have isn't looked at.
-pub(crate) fn value_at(op: ScaledOp, p: Points, x: i64, y: i64) -> i128
+pub(crate) fn value_at(op: ScaledOp, p: Points, x: Whole, y: Whole) -> Whole
     requires points { AreLow p }
-    requires first { unsigned_abs x < 2 ^ 32 }
-    requires second { unsigned_abs y < 2 ^ 32 }
-    requires divisor { FormHasDivisor op y }
-    ensures { result ≡ form_value op p x y }
+    requires first { unsigned_abs x.number < 2 ^ 32 }
+    requires second { unsigned_abs y.number < 2 ^ 32 }
+    requires divisor { FormHasDivisor op y.number }
+    ensures { result.number ≡ form_value op p x.number y.number }
 {
-    let (first, second) = (exact(x, p.a), exact(y, p.b));
+    let (first, second) = (at_point(x, p.a), at_point(y, p.b));
     match op {
         ScaledOp::Convert => first.moved(p.c),
         ScaledOp::Add => first.plus(second, highest(p)).lowered(p.c),
@@ -28,14 +29,14 @@ pub(crate) fn value_at(op: ScaledOp, p: Points, x: i64, y: i64) -> i128
 }
 
 // The quotient at a binary point: the plain one by a divisor whose point is that much higher.
-fn quotient(dividend: Count, divisor: Count, point: u8) -> i128
+fn quotient(dividend: Count, divisor: Count, point: u8) -> Whole
     requires first { unsigned_abs dividend.number < 2 ^ 32 }
     requires second { unsigned_abs divisor.number < 2 ^ 32 }
     requires nonzero { 1 ≤ unsigned_abs divisor.number }
     requires points { (dividend.point ≤ 15) × (divisor.point ≤ 15) }
     requires to { point ≤ 15 }
     ensures { let high = max dividend.point (point + divisor.point) in
-        result ≡ int_div (raised dividend.number dividend.point high) (raised divisor.number (point + divisor.point) high) }
+        result.number ≡ int_div (raised dividend.number dividend.point high) (raised divisor.number (point + divisor.point) high) }
 {
     let divisor = Count {
         number: divisor.number,

@@ -1,18 +1,51 @@
-use Rattle.std.proofs.Common.{rules, ◌∙◌, ap₂, ◌^◌, arith}
+use Rattle.std.proofs.Common.{◌∙◌, ap₂, ◌^◌}
 use Rattle.std.specs.Int.{w128}
-use Rattle.std.proofs.lemmas.Int.{ints, to_z-of_z}
+use Rattle.std.proofs.lemmas.Int.{to_z-of_z}
 use Rattle.fx_core.specs.Rounding.{power}
 use Rattle.cert_rules.specs.ArithRules.{quotient_error, reach}
 use Rattle.cert_rules.proofs.ArithSizes.{Factors, error_factors, power_high, power_low, reach_factors}
+use Rattle.cert_rules.proofs.WordSteps.{error_factor, is_error, reach_factor, word_low}
 use Rattle.cert_rules.proofs.arith_errors.shifted_quotient_error.Goals as goal
+
+pub product-requires-clause-first_low : goal.product-requires-clause-first_low
+product-requires-clause-first_low c =
+    (reach_factor c.reach.result c.reach.ensures.low c.reach.ensures.high).low
+
+pub product-requires-clause-first_high : goal.product-requires-clause-first_high
+product-requires-clause-first_high c =
+    (reach_factor c.reach.result c.reach.ensures.low c.reach.ensures.high).wide
+
+pub product-requires-clause-second_low : goal.product-requires-clause-second_low
+product-requires-clause-second_low c =
+    (reach_factor c.power_of_two-factor.result (power_low c.args.shift _ c.power_of_two-factor.ensures.value) (power_high c.args.shift _ c.power_of_two-factor.ensures.value c.power_of_two-factor.ensures.size)).low
+
+pub product-requires-clause-second_high : goal.product-requires-clause-second_high
+product-requires-clause-second_high c =
+    (reach_factor c.power_of_two-factor.result (power_low c.args.shift _ c.power_of_two-factor.ensures.value) (power_high c.args.shift _ c.power_of_two-factor.ensures.value c.power_of_two-factor.ensures.size)).narrow
+
+pub product-requires-2-clause-first_low : goal.product-requires-2-clause-first_low
+product-requires-2-clause-first_low c =
+    (error_factor c.args.x c.from.result c.requires.dividend c.from.ensures).low
+
+pub product-requires-2-clause-first_high : goal.product-requires-2-clause-first_high
+product-requires-2-clause-first_high c =
+    (error_factor c.args.x c.from.result c.requires.dividend c.from.ensures).wide
+
+pub product-requires-2-clause-second_low : goal.product-requires-2-clause-second_low
+product-requires-2-clause-second_low c =
+    (reach_factor c.power_of_two-factor.result (power_low c.args.shift _ c.power_of_two-factor.ensures.value) (power_high c.args.shift _ c.power_of_two-factor.ensures.value c.power_of_two-factor.ensures.size)).low
+
+pub product-requires-2-clause-second_high : goal.product-requires-2-clause-second_high
+product-requires-2-clause-second_high c =
+    (reach_factor c.power_of_two-factor.result (power_low c.args.shift _ c.power_of_two-factor.ensures.value) (power_high c.args.shift _ c.power_of_two-factor.ensures.value c.power_of_two-factor.ensures.size)).narrow
 
 top : (c : goal.After-product-2) → Factors (reach c.args.x) (power c.args.shift) c.product.result (2 ^ 64)
 top c =
-    reach_factors c.reach.result c.power_of_two-factor.result _ _ c.product.result c.reach.ensures.low c.reach.ensures.high (power_low c.args.shift _ c.power_of_two-factor.ensures.value) (power_high c.args.shift _ c.power_of_two-factor.ensures.value c.power_of_two-factor.ensures.size) c.reach.ensures.value c.power_of_two-factor.ensures.value (search rules) c.product.ensures.value
+    reach_factors c.reach.result c.power_of_two-factor.result _ _ c.product.result c.reach.ensures.low c.reach.ensures.high (power_low c.args.shift _ c.power_of_two-factor.ensures.value) (power_high c.args.shift _ c.power_of_two-factor.ensures.value c.power_of_two-factor.ensures.size) c.reach.ensures.value c.power_of_two-factor.ensures.value (record { sfits = c.product.type_inv }) c.product.ensures.value
 
 error : (c : goal.After-product-2) → Factors c.args.x.err (power c.args.shift) c.product-2.result (2 ^ 74)
 error c =
-    error_factors c.from.result c.power_of_two-factor.result _ _ c.product-2.result c.requires.dividend.positive c.requires.dividend.near (power_low c.args.shift _ c.power_of_two-factor.ensures.value) (power_high c.args.shift _ c.power_of_two-factor.ensures.value c.power_of_two-factor.ensures.size) (omega (arith, ints)) c.power_of_two-factor.ensures.value (search rules) c.product-2.ensures.value
+    error_factors c.from.result c.power_of_two-factor.result _ _ c.product-2.result c.requires.dividend.positive c.requires.dividend.near (power_low c.args.shift _ c.power_of_two-factor.ensures.value) (power_high c.args.shift _ c.power_of_two-factor.ensures.value c.power_of_two-factor.ensures.size) (is_error c.args.x c.from.result c.requires.dividend c.from.ensures).value c.power_of_two-factor.ensures.value (record { sfits = c.product-2.type_inv }) c.product-2.ensures.value
 
 pub quotient_error-requires-clause-top_high : goal.quotient_error-requires-clause-top_high
 quotient_error-requires-clause-top_high c = (top c).high
@@ -20,8 +53,16 @@ quotient_error-requires-clause-top_high c = (top c).high
 pub quotient_error-requires-clause-high : goal.quotient_error-requires-clause-high
 quotient_error-requires-clause-high c = (error c).high
 
+pub quotient_error-requires-clause-top_low : goal.quotient_error-requires-clause-top_low
+quotient_error-requires-clause-top_low c =
+    word_low c.product.result (record { sfits = c.product.type_inv }) c.product.ensures.low
+
+pub quotient_error-requires-clause-low : goal.quotient_error-requires-clause-low
+quotient_error-requires-clause-low c =
+    word_low c.product-2.result (record { sfits = c.product-2.type_inv }) c.product-2.ensures.low
+
 pub returns : goal.returns
 returns c =
-    let t : Factors (reach c.args.x) (power c.args.shift) c.product.result (2 ^ 64) = reach_factors c.reach.result c.power_of_two-factor.result _ _ c.product.result c.reach.ensures.low c.reach.ensures.high (power_low c.args.shift _ c.power_of_two-factor.ensures.value) (power_high c.args.shift _ c.power_of_two-factor.ensures.value c.power_of_two-factor.ensures.size) c.reach.ensures.value c.power_of_two-factor.ensures.value (search rules) c.product.ensures.value in
-    let u : Factors c.args.x.err (power c.args.shift) c.product-2.result (2 ^ 74) = error_factors c.from.result c.power_of_two-factor.result _ _ c.product-2.result c.requires.dividend.positive c.requires.dividend.near (power_low c.args.shift _ c.power_of_two-factor.ensures.value) (power_high c.args.shift _ c.power_of_two-factor.ensures.value c.power_of_two-factor.ensures.size) (omega (arith, ints)) c.power_of_two-factor.ensures.value (search rules) c.product-2.ensures.value in
-    to_z-of_z w128 c.quotient_error.result (search rules) ∙ c.quotient_error.ensures ∙ ap₂ (λ s t. quotient_error s t c.args.y) t.value u.value
+    let t : Factors (reach c.args.x) (power c.args.shift) c.product.result (2 ^ 64) = reach_factors c.reach.result c.power_of_two-factor.result _ _ c.product.result c.reach.ensures.low c.reach.ensures.high (power_low c.args.shift _ c.power_of_two-factor.ensures.value) (power_high c.args.shift _ c.power_of_two-factor.ensures.value c.power_of_two-factor.ensures.size) c.reach.ensures.value c.power_of_two-factor.ensures.value (record { sfits = c.product.type_inv }) c.product.ensures.value in
+    let u : Factors c.args.x.err (power c.args.shift) c.product-2.result (2 ^ 74) = error_factors c.from.result c.power_of_two-factor.result _ _ c.product-2.result c.requires.dividend.positive c.requires.dividend.near (power_low c.args.shift _ c.power_of_two-factor.ensures.value) (power_high c.args.shift _ c.power_of_two-factor.ensures.value c.power_of_two-factor.ensures.size) (is_error c.args.x c.from.result c.requires.dividend c.from.ensures).value c.power_of_two-factor.ensures.value (record { sfits = c.product-2.type_inv }) c.product-2.ensures.value in
+    to_z-of_z w128 c.quotient_error.result (record { sfits = c.quotient_error.type_inv }) ∙ c.quotient_error.ensures ∙ ap₂ (λ s t. quotient_error s t c.args.y) t.value u.value

@@ -1,43 +1,60 @@
-use Rattle.std.proofs.Common.{rules, ◌≡◌, arith, ◌∙◌, to_z, of_z, ◌*ℤ◌, ◌-ℤ◌, ◌+ℤ◌}
-use Rattle.std.specs.Int.{w128, int_max}
-use Rattle.std.specs.Prelude.{◌≤◌, unsigned_abs}
-use Rattle.std.proofs.lemmas.Int.{ints}
-use Rattle.fx_core.specs.Rounding.{power}
-use Rattle.cert_rules.proofs.ArithCornerValues.{word, product_given, quotient_given, lesser_given, greater_given, sub_at, div_at, mul_div_at, mul_sh_right_at, div_sh_left_at, limit_at, rate_limiter_at}
+use Rattle.std.proofs.Common.{◌∙◌, ap, ap₂, ◌*ℤ◌}
+use Rattle.std.specs.Prelude.{◌≤◌, pos, int_div, unsigned_abs}
+use Rattle.std.specs.Int.{int_max, int_min}
+use Rattle.cert_rules.proofs.ArithCornerValues.{add_at, sub_at, abs_diff_at, abs_at, mul_at, div_at, mul_div_at, mul_sh_right_at, div_sh_left_at, limit_at, min_at, max_at, rate_limiter_at}
 use Rattle.cert_rules.proofs.arith_values.value_at.Goals as goal
+
+pub returns-in-Add : goal.returns-in-Add
+returns-in-Add c =
+    rw c.in-Add.is (c.plus.ensures ∙ add_at c.args.shift c.args.x.number c.args.y.number c.args.z.number)
 
 pub returns-in-Sub : goal.returns-in-Sub
 returns-in-Sub c =
-    rw c.in-Sub.is (omega (arith, ints) ∙ sub_at c.args.shift c.args.x c.args.y c.args.z)
+    rw c.in-Sub.is (c.minus.ensures.value ∙ sub_at c.args.shift c.args.x.number c.args.y.number c.args.z.number)
+
+pub returns-in-AbsDiff : goal.returns-in-AbsDiff
+returns-in-AbsDiff c =
+    rw c.in-AbsDiff.is (c.absolute.ensures ∙ ap (λ n. pos (unsigned_abs n)) c.minus-in-AbsDiff.ensures.value ∙ abs_diff_at c.args.shift c.args.x.number c.args.y.number c.args.z.number)
+
+pub returns-in-Abs : goal.returns-in-Abs
+returns-in-Abs c =
+    rw c.in-Abs.is (c.absolute-in-Abs.ensures ∙ abs_at c.args.shift c.args.x.number c.args.y.number c.args.z.number)
+
+pub returns-in-Mul : goal.returns-in-Mul
+returns-in-Mul c =
+    rw c.in-Mul.is (c.times.ensures.value ∙ mul_at c.args.shift c.args.x.number c.args.y.number c.args.z.number)
 
 pub returns-in-Div : goal.returns-in-Div
 returns-in-Div c =
-    let some : 1 ≤ unsigned_abs c.args.y = rw c.in-Div.is at c.requires.divisor in
-    rw c.in-Div.is (quotient_given c.from-x.result c.from-y.result c.args.x c.args.y c.quotient.result (search rules) (search rules) (search rules) (omega (arith, ints)) (omega (arith, ints)) c.quotient.ensures ∙ div_at c.args.shift c.args.x c.args.y c.args.z some)
+    let some : 1 ≤ unsigned_abs c.args.y.number = rw c.in-Div.is at c.requires.divisor in
+    rw c.in-Div.is (c.over.ensures ∙ div_at c.args.shift c.args.x.number c.args.y.number c.args.z.number some)
 
 pub returns-in-MulDiv : goal.returns-in-MulDiv
 returns-in-MulDiv c =
-    let some : 1 ≤ unsigned_abs c.args.z = rw c.in-MulDiv.is at c.requires.divisor in
-    let p : c.product-in-MulDiv.result ≡ c.args.x *ℤ c.args.y = product_given c.from-x.result c.from-y.result c.args.x c.args.y _ (search rules) (search rules) (omega (arith, ints)) (omega (arith, ints)) c.product-in-MulDiv.ensures.value in
-    rw c.in-MulDiv.is (quotient_given c.product-in-MulDiv.result c.from-z.result (c.args.x *ℤ c.args.y) c.args.z c.quotient-in-MulDiv.result (search rules) (search rules) (search rules) p (omega (arith, ints)) c.quotient-in-MulDiv.ensures ∙ mul_div_at c.args.shift c.args.x c.args.y c.args.z some)
+    let some : 1 ≤ unsigned_abs c.args.z.number = rw c.in-MulDiv.is at c.requires.divisor in
+    rw c.in-MulDiv.is (c.over-in-MulDiv.ensures ∙ ap (λ n. int_div n c.args.z.number) c.times-in-MulDiv.ensures.value ∙ mul_div_at c.args.shift c.args.x.number c.args.y.number c.args.z.number some)
 
 pub returns-in-MulShRight : goal.returns-in-MulShRight
 returns-in-MulShRight c =
-    let p : c.product-in-MulShRight.result ≡ c.args.x *ℤ c.args.y = product_given c.from-x.result c.from-y.result c.args.x c.args.y _ (search rules) (search rules) (omega (arith, ints)) (omega (arith, ints)) c.product-in-MulShRight.ensures.value in
-    rw c.in-MulShRight.is (quotient_given c.product-in-MulShRight.result c.power_of_two.result (c.args.x *ℤ c.args.y) (power c.args.shift) c.quotient-in-MulShRight.result (search rules) (search rules) (search rules) p c.power_of_two.ensures.value c.quotient-in-MulShRight.ensures ∙ mul_sh_right_at c.args.shift c.args.x c.args.y c.args.z)
+    rw c.in-MulShRight.is (c.over-in-MulShRight.ensures ∙ ap₂ int_div c.times-in-MulShRight.ensures.value c.of_shift.ensures.value ∙ mul_sh_right_at c.args.shift c.args.x.number c.args.y.number c.args.z.number)
 
 pub returns-in-DivShLeft : goal.returns-in-DivShLeft
 returns-in-DivShLeft c =
-    let some : 1 ≤ unsigned_abs c.args.y = rw c.in-DivShLeft.is at c.requires.divisor in
-    let p : c.product-in-DivShLeft.result ≡ c.args.x *ℤ power c.args.shift = product_given c.from-x.result c.power_of_two-in-DivShLeft.result c.args.x (power c.args.shift) _ (search rules) (search rules) (omega (arith, ints)) c.power_of_two-in-DivShLeft.ensures.value c.product-in-DivShLeft.ensures.value in
-    rw c.in-DivShLeft.is (quotient_given c.product-in-DivShLeft.result c.from-y.result (c.args.x *ℤ power c.args.shift) c.args.y c.quotient-in-DivShLeft.result (search rules) (search rules) (search rules) p (omega (arith, ints)) c.quotient-in-DivShLeft.ensures ∙ div_sh_left_at c.args.shift c.args.x c.args.y c.args.z some)
+    let some : 1 ≤ unsigned_abs c.args.y.number = rw c.in-DivShLeft.is at c.requires.divisor in
+    rw c.in-DivShLeft.is (c.over-in-DivShLeft.ensures ∙ ap (λ n. int_div n c.args.y.number) (c.times-in-DivShLeft.ensures.value ∙ ap (λ n. c.args.x.number *ℤ n) c.of_shift-in-DivShLeft.ensures.value) ∙ div_sh_left_at c.args.shift c.args.x.number c.args.y.number c.args.z.number some)
 
 pub returns-in-Limit : goal.returns-in-Limit
 returns-in-Limit c =
-    let g : to_z w128 (of_z w128 c.greater.result) ≡ int_max c.args.y c.args.x = greater_given (word c.from-y.result) (word c.from-x.result) c.args.y c.args.x c.greater.result c.greater.ensures (search rules) (omega (arith, ints)) (omega (arith, ints)) in
-    rw c.in-Limit.is (lesser_given (word c.from-z.result) (word c.greater.result) c.args.z (int_max c.args.y c.args.x) c.lesser.result c.lesser.ensures (search rules) (omega (arith, ints)) g ∙ limit_at c.args.shift c.args.x c.args.y c.args.z)
+    rw c.in-Limit.is (c.lesser.ensures ∙ ap (int_min c.args.z.number) c.greater.ensures ∙ limit_at c.args.shift c.args.x.number c.args.y.number c.args.z.number)
+
+pub returns-in-Min : goal.returns-in-Min
+returns-in-Min c =
+    rw c.in-Min.is (c.lesser-in-Min.ensures ∙ min_at c.args.shift c.args.x.number c.args.y.number c.args.z.number)
+
+pub returns-in-Max : goal.returns-in-Max
+returns-in-Max c =
+    rw c.in-Max.is (c.greater-in-Max.ensures ∙ max_at c.args.shift c.args.x.number c.args.y.number c.args.z.number)
 
 pub returns-in-RateLimiter : goal.returns-in-RateLimiter
 returns-in-RateLimiter c =
-    let g : to_z w128 (of_z w128 c.greater-in-RateLimiter.result) ≡ int_max (c.args.y -ℤ c.args.z) c.args.x = greater_given (word (word c.from-y.result -ℤ word c.from-z.result)) (word c.from-x.result) (c.args.y -ℤ c.args.z) c.args.x c.greater-in-RateLimiter.result c.greater-in-RateLimiter.ensures (search rules) (omega (arith, ints)) (omega (arith, ints)) in
-    rw c.in-RateLimiter.is (lesser_given (word (word c.from-y.result +ℤ word c.from-z.result)) (word c.greater-in-RateLimiter.result) (c.args.y +ℤ c.args.z) (int_max (c.args.y -ℤ c.args.z) c.args.x) c.lesser-in-RateLimiter.result c.lesser-in-RateLimiter.ensures (search rules) (omega (arith, ints)) g ∙ rate_limiter_at c.args.shift c.args.x c.args.y c.args.z)
+    rw c.in-RateLimiter.is (c.lesser-in-RateLimiter.ensures ∙ ap₂ int_min c.plus-in-RateLimiter.ensures (c.greater-in-RateLimiter.ensures ∙ ap (λ n. int_max n c.args.x.number) c.minus-in-RateLimiter.ensures.value) ∙ rate_limiter_at c.args.shift c.args.x.number c.args.y.number c.args.z.number)

@@ -21,4 +21,4 @@ error_of-requires-clause-nonzero c = sym (c.may_divide_by_zero.ensures c.args.x)
 pub returns : goal.returns
 unfolding scaled_bounds
 returns c =
-    gives_bounds (scaled_may_divide_by_zero c.args.op (two c.args.x c.args.y)) _ _ _ (scaled_bounds c.args.op c.args.p (two c.args.x c.args.y)) (sym (c.may_divide_by_zero.ensures c.args.x) ∙ c.if-may_divide_by_zero.false) (to_z-of_z w128 c.range_of-range.result.lo (search rules) ∙ c.range_of-range.ensures.lo) (to_z-of_z w128 c.range_of-range.result.hi (search rules) ∙ c.range_of-range.ensures.hi) (to_z-of_z w128 c.error_of.result (search rules) ∙ c.error_of.ensures)
+    gives_bounds (scaled_may_divide_by_zero c.args.op (two c.args.x c.args.y)) _ _ _ (scaled_bounds c.args.op c.args.p (two c.args.x c.args.y)) (sym (c.may_divide_by_zero.ensures c.args.x) ∙ c.if-may_divide_by_zero.false) (to_z-of_z w128 c.range_of-range.result.lo (search rules) ∙ c.range_of-range.ensures.lo) (to_z-of_z w128 c.range_of-range.result.hi (search rules) ∙ c.range_of-range.ensures.hi) (to_z-of_z w128 c.error_of.result (record { sfits = c.error_of.type_inv }) ∙ c.error_of.ensures)
