@@ -83,4 +83,9 @@ unfolding walked ended
 walked-missing wires above entries fault is =
     at_end above entries (length entries == length (parts_of wires)) (Err fault) (sym is)
 
+-- behind the last line, by the tests that the code makes
+pub walked-tested : (wires : List Wire) (above : ℕ) (entries : List Bounds) (complete : Bool) (outcome : Result (Unit {0}) CertKind) (given : Result (Unit {0}) CertFault) → complete ≡ (length entries == length (parts_of wires)) → outcome ≡ demand complete Missing → given ≡ located above outcome → given ≡ Ok tt → walked wires above entries [] ≡ Ok entries
+walked-tested wires above entries complete outcome given tested demanded is passed =
+    walked-complete wires above entries (sym (ap (λ b. located above (demand b Missing)) tested) ∙ sym (is ∙ ap (located above) demanded) ∙ passed)
+
 pub ruleset walk_steps = (walked-blank, walked-entry, walked-fault, walked-complete, walked-missing)

@@ -1,6 +1,7 @@
 -- How a command ends, put together from how its steps end.
 use Rattle.std.proofs.Common.{◌≡◌, ℕ, ◌≤◌, List, [], ◌∷◌, ◌++◌, Option, Result, Ok, Err, refl, sym, subst, append-nil, arith}
 use Rattle.std.specs.Prelude.{Contains}
+use Rattle.std.specs.Result.{IsErrAnd}
 use Rattle.std.proofs.KnownBytes.{Appends-nil}
 use Rattle.std.proofs.lemmas.List.Elements.{Contains-append_right}
 use Rattle.fx_io.specs.Causes.{Rose}
@@ -113,3 +114,25 @@ cause_behind_printing files first now failed a b c (Err (Refused n)) l h = tt
 cause_behind_printing files first now failed a b c (Err (CannotRead text)) l h = h
 cause_behind_printing files first now failed a b c (Err CannotWrite) l h = rose_earlier a b c l h
 cause_behind_printing files first now failed a b c (Err OutOfMemory) l h = tt
+
+-- a step over a file ended the command, which hands its ending on
+pub stopped : {T A : Type 0} (file : List ℕ) (step : Result A Refusal) (next : A → Outcome) (before now : ℕ) (failed : List ℕ) (old : Option (List ℕ)) (e : Ending) (r : Result T Ending) → StopsAt step e → HasStopCause file before now failed e → IsErrAnd r (λ x. x ≡ e) → Ends (reading file step next) failed old old r
+stopped file step next before now failed old e (Ok v) h c is = absurd is
+stopped file step next before now failed old e (Err x) h c is =
+    subst (EndsEarly (reading file step next) failed old old) (sym is) (stops file step next before now failed old e h c)
+
+-- and so it is with why
+pub stopped_cause : {T : Type 0} (file : List ℕ) (files : List (List ℕ)) (before now : ℕ) (failed : List ℕ) (out_before out_now : ℕ) (e : Ending) (r : Result T Ending) → HasStopCause file before now failed e → IsErrAnd r (λ x. x ≡ e) → HasEndingCause (file ∷ files) before now failed out_before out_now r
+stopped_cause file files before now failed ob on e (Ok v) c is = absurd is
+stopped_cause {T} file files before now failed ob on e (Err x) c is =
+    subst (λ y. HasEndingCause {T = T} (file ∷ files) before now failed ob on (Err y)) (sym is) (cause_of_step (file ∷ files) file before before now failed ob on e (named_first file file files refl) (omega arith) c)
+
+-- memory ran out before anything was printed
+pub memory_stops : {T : Type 0} (o : Outcome) (failed : List ℕ) (old : Option (List ℕ)) (r : Result T Ending) → IsErrAnd r (λ e. e ≡ OutOfMemory) → Ends o failed old old r
+memory_stops o failed old (Ok v) h = absurd h
+memory_stops o failed old (Err e) h = subst (EndsEarly o failed old old) (sym h) (front_of_none old o.out)
+
+pub memory_causes : {T : Type 0} (files : List (List ℕ)) (first now : ℕ) (failed : List ℕ) (out_before out_now : ℕ) (r : Result T Ending) → IsErrAnd r (λ e. e ≡ OutOfMemory) → HasEndingCause files first now failed out_before out_now r
+memory_causes files first now failed ob on (Ok v) h = absurd h
+memory_causes {T} files first now failed ob on (Err e) h =
+    subst (λ x. HasEndingCause {T = T} files first now failed ob on (Err x)) (sym h) tt

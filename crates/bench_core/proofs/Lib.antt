@@ -13,3 +13,4 @@ pub mod TypedRows
 pub mod PrintedLines
 pub mod RecordingSteps
 pub mod RunLaws
+pub mod JoinedTexts

@@ -24,9 +24,9 @@ kind_word kind.Missing = codes "Missing"
 kind_word kind.NotBuilt = codes "NotBuilt"
 
 -- `FILE:LINE: KIND`
-abbrev pub fault_line : List ℕ → NetFault → List ℕ
-fault_line file fault = file ++ codes ":" ++ decimal fault.line ++ codes ": " ++ kind_word fault.kind ++ 10 ∷ []
+abbrev pub fault_line : List ℕ → ℕ → List ℕ → List ℕ
+fault_line file line word = file ++ codes ":" ++ decimal line ++ codes ": " ++ word ++ 10 ∷ []
 
 -- the network's text has a fault
 unfoldable pub bad_network : List ℕ → NetFault → Refusal
-bad_network file fault = record { status = 3; text = fault_line file fault }
+bad_network file fault = record { status = 3; text = fault_line file fault.line (kind_word fault.kind) }

@@ -4,7 +4,7 @@ ghost use Rattle.bench_core.specs.declared.cert_kind.CertError.TheVariants.{Faul
 use std::alloc::{AllocError, AllocFailed};
 
 /// A fault of a certificate's text, in the order in which one line is tested.
-#[derive(Clone, Copy, Debug, PartialEq, Eq)]
+#[derive(Clone, Copy)]
 pub enum CertKind {
     /// The first line with words isn't `cert 1`.
     NoHead,
@@ -22,14 +22,14 @@ pub enum CertKind {
 }
 
 /// A fault of a certificate's text and its line, from 1; of a missing part the number of lines.
-#[derive(Clone, Copy, Debug, PartialEq, Eq)]
+#[derive(Clone, Copy)]
 pub struct CertFault {
     pub line: u32,
     pub kind: CertKind,
 }
 
 /// Why a text gives no certificate.
-#[derive(Clone, Copy, Debug, PartialEq, Eq)]
+#[derive(Clone, Copy)]
 pub enum CertError {
     /// The first fault of the text.
     Fault(CertFault),

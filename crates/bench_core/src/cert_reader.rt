@@ -29,7 +29,7 @@ pub fn read_certificate(alloc: Global, net: &Network, text: &[u8]) -> Result<Cer
 }
 
 // The entries that the text says. A line is refused where its entry isn't proper, so they make a certificate.
-#[tactic(auto, using(crate::proofs::CertificateSteps::walk_steps, crate::proofs::CertificateLaws::few_entries))]
+#[tactic(auto, using(crate::proofs::CertificateSteps::walk_steps))]
 fn read_entries(alloc: Global, net: &Network, text: &[u8]) -> Result<Vec<Bounds>, CertError>
     requires { length text.now < 2 ^ 32 }
     ensures reads { ReadsCertificate net.now.wires text.now

@@ -15,7 +15,6 @@ use net_model::Network;
 use std::alloc::Global;
 
 /// Reads the network and its certificate, and prints `accepted` where the certificate is.
-#[tactic(auto, using(crate::proofs::EndingLaws::stops, crate::proofs::EndingLaws::goes, crate::proofs::EndingLaws::cause_of_step, crate::proofs::EndingLaws::cause_from_later), unfolding(crate::specs::CheckAnswer::check_answer))]
 pub(crate) fn check<S: Shelf, O: Sink>(
     alloc: Global,
     net: &str,
@@ -36,7 +35,6 @@ pub(crate) fn check<S: Shelf, O: Sink>(
 }
 
 // Reads the certificate of this network, and prints `accepted` where it is.
-#[tactic(auto, using(crate::proofs::EndingLaws::stops, crate::proofs::EndingLaws::goes, crate::proofs::EndingLaws::cause_of_step, crate::proofs::EndingLaws::cause_from_later), unfolding(crate::specs::CheckAnswer::check_certificate))]
 fn certify<S: Shelf, O: Sink>(
     alloc: Global,
     network: &Network,

@@ -15,23 +15,19 @@ use std::alloc::{AllocError, Global};
 pub(crate) fn refuse_network(alloc: Global, file: &str, fault: NetFault) -> Ending
     ensures { RefusesWith (bad_network file.now fault) result }
 {
-    match fault_line(alloc, file.as_bytes(), fault) {
+    match fault_line(alloc, file.as_bytes(), fault.line, kind_word(fault.kind)) {
         Ok(text) => Ending::Refused(Notice { status: 3, text }),
         Err(_) => Ending::OutOfMemory,
     }
 }
 
 // `FILE:LINE: KIND`, with its line feed.
-fn fault_line(alloc: Global, file: &[u8], fault: NetFault) -> Result<Vec<u8>, AllocError>
-    ensures { IfOk result (λ text. text.items ≡ fault_line file.now fault) }
+fn fault_line(alloc: Global, file: &[u8], line: u32, kind: &[u8]) -> Result<Vec<u8>, AllocError>
+    ensures { IfOk result (λ text. text.items ≡ fault_line file.now line kind.now) }
 {
-    let mut text = Vec::from_slice(alloc, file)?;
-    text.extend_from_slice(b":")?;
-    text.extend_from_slice(Buffer::new().format(fault.line).as_bytes())?;
-    text.extend_from_slice(b": ")?;
-    text.extend_from_slice(kind_word(fault.kind))?;
-    text.push(b'\n')?;
-    Ok(text)
+    let mut digits = Buffer::new();
+    let number = digits.format(line).as_bytes();
+    [file, b":", number, b": ", kind, b"\n"].concat(alloc)
 }
 
 fn kind_word(kind: NetKind) -> &'static [u8]

@@ -67,11 +67,7 @@ fn refuse_row_for(alloc: Global, number: usize, front: &[u8], back: &[u8]) -> En
 fn row_line(alloc: Global, number: usize, front: &[u8], back: &[u8]) -> Result<Vec<u8>, AllocError>
     ensures { IfOk result (λ text. text.items ≡ row_line number (front.now ++ back.now)) }
 {
-    let mut text = Vec::from_slice(alloc, b"row ")?;
-    text.extend_from_slice(Buffer::new().format(number).as_bytes())?;
-    text.extend_from_slice(b": ")?;
-    text.extend_from_slice(front)?;
-    text.extend_from_slice(back)?;
-    text.push(b'\n')?;
-    Ok(text)
+    let mut digits = Buffer::new();
+    let row = digits.format(number).as_bytes();
+    [b"row ", row, b": ", front, back, b"\n"].concat(alloc)
 }

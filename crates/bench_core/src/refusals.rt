@@ -34,11 +34,7 @@ pub(crate) fn unread(alloc: Global, file: &str) -> Ending
 fn line_of(alloc: Global, front: &[u8], back: &[u8]) -> Result<Vec<u8>, AllocError>
     ensures { IfOk result (λ text. text.items ≡ line front.now back.now) }
 {
-    let mut text = Vec::new(alloc);
-    text.extend_from_slice(front)?;
-    text.extend_from_slice(back)?;
-    text.push(b'\n')?;
-    Ok(text)
+    [front, back, b"\n"].concat(alloc)
 }
 
 /// Prints the text in one write.

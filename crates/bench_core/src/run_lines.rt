@@ -1,25 +1,23 @@
 // The lines of a printed run.
-ghost use Rattle.std.specs.Prelude.{◌≡◌, ◌++◌, map, IfOk, OnOk};
+ghost use Rattle.std.specs.Prelude.{◌≡◌, ◌++◌, map, OnOk};
 ghost use Rattle.std.specs.Fmt.{signed_decimal};
 ghost use Rattle.bench_core.specs.RecordingTexts.{name_of};
 ghost use Rattle.bench_core.specs.PrintedRuns.{behind, joined, names_line, values_line};
 
 use itoa::Buffer;
 use net_model::{Network, WireNo};
-use std::alloc::{AllocError, Global};
+use std::alloc::AllocError;
 
-/// The line with the names of the outputs, with its line feed.
-#[tactic(auto, using(crate::proofs::PrintedLines::pieces_step, crate::proofs::PrintedLines::pieces_end))]
-pub(crate) fn names_line(alloc: Global, network: &Network) -> Result<Vec<u8>, AllocError>
-    ensures { IfOk result (λ line. line.items ≡ names_line network.now) }
+/// Appends the line with the names of the outputs, with its line feed.
+pub(crate) fn push_names(text: &mut Vec<u8>, network: &Network) -> Result<(), AllocError>
+    ensures { OnOk result (text.new.items ≡ text.old.items ++ names_line network.now) }
 {
-    let mut line = Vec::new(alloc);
     let outs = network.outs();
     for i in 0..outs.len() {
-        push_piece(&mut line, i, name_of(network, outs[i]))?;
+        push_piece(text, i, name_of(network, outs[i]))?;
     }
-    line.push(b'\n')?;
-    Ok(line)
+    text.push(b'\n')?;
+    Ok(())
 }
 
 /// Appends the line of a row's values, in decimal, with its line feed.

@@ -14,7 +14,7 @@ use super::endings::Ending;
 use super::evaluation::Evaluation;
 use super::recording_refusals::{refuse_empty, refuse_header, refuse_row};
 use super::refusals::print;
-use super::run_lines::names_line;
+use super::run_lines::push_names;
 use super::steps::{network_at, read_file};
 use fx_io::{Shelf, Sink};
 use net_model::Network;
@@ -29,7 +29,6 @@ const RECORDING_LIMIT: usize = 0x400_0000;
 const BATCH: usize = 64;
 
 /// Reads the network and the recording, and prints the outputs of each row.
-#[tactic(auto, using(crate::proofs::EndingLaws::stops, crate::proofs::EndingLaws::goes, crate::proofs::EndingLaws::cause_of_step, crate::proofs::EndingLaws::cause_from_later), unfolding(crate::specs::RunAnswer::run_answer))]
 pub(crate) fn run<S: Shelf, O: Sink>(
     alloc: Global,
     net: &str,
@@ -50,7 +49,6 @@ pub(crate) fn run<S: Shelf, O: Sink>(
 }
 
 // Reads the recording of this network, and prints the outputs of each row.
-#[tactic(auto, using(crate::proofs::EndingLaws::stops, crate::proofs::EndingLaws::goes, crate::proofs::EndingLaws::cause_of_step, crate::proofs::EndingLaws::cause_from_later), unfolding(crate::specs::RunAnswer::run_network))]
 fn replay_file<S: Shelf, O: Sink>(
     alloc: Global,
     network: &Network,
@@ -113,7 +111,6 @@ fn head<'a>(
 }
 
 // Prints the names of the outputs, and their values at each row below the header.
-#[tactic(auto, using(crate::proofs::RunLaws::goes_printed, crate::proofs::RunLaws::stops_printed), unfolding(crate::specs::RunSteps::headed_answer))]
 fn print_run<O: Sink>(
     alloc: Global,
     network: &Network,
@@ -129,10 +126,10 @@ fn print_run<O: Sink>(
         HasEndingCause [] before now failed (O.faults out.old) (O.faults out.new) result }
     ensures unread { WhereUnread result ⊥ }
 {
-    let names = names_line(alloc, network)?;
     let mut text = Vec::with_capacity(alloc, batch_room(network.outs().len()))?;
+    push_names(&mut text, network)?;
     let mut evaluation = Evaluation::new(alloc, network)?;
-    print(out, &names)?;
+    flush(&mut text, out)?;
     print_rows(
         alloc,
         network,
@@ -150,7 +147,7 @@ fn batch_room(outputs: usize) -> usize {
 }
 
 // Prints the line of each row below the header, in batches, each in one write.
-#[tactic(auto, using(crate::proofs::RunLaws::under_start, crate::proofs::RunLaws::under_blank, crate::proofs::RunLaws::under_row, crate::proofs::RunLaws::under_flushed, crate::proofs::RunLaws::stops_flush, crate::proofs::RunLaws::stops_row, crate::proofs::RunLaws::ends_run))]
+#[tactic(auto, using(crate::proofs::RunLaws::under_start, crate::proofs::RunLaws::under_row))]
 fn print_rows<O: Sink>(
     alloc: Global,
     network: &Network,

@@ -1,7 +1,7 @@
-use Rattle.std.proofs.Common.{rules, ◌≡◌, sym, ◌∙◌, false, arith}
+use Rattle.std.proofs.Common.{rules, ◌≡◌, sym, ◌∙◌, true, false, arith}
 use Rattle.text_words.specs.Lines.{lines_from}
 use Rattle.rec_csv.specs.Fields.{is_blank}
-use Rattle.bench_core.proofs.RunLaws.{under_row, under_flushed, stops_flush, stops_row, ends_run}
+use Rattle.bench_core.proofs.RunLaws.{under_blank, under_row, under_flushed, stops_flush, stops_row, ends_run}
 use Rattle.bench_core.proofs.running.print_rows.Goals as goal
 
 pub loop-line-preserved-in-Continue-1 : goal.loop-line-preserved-in-Continue-1
@@ -44,3 +44,15 @@ pub returns-clause-told : goal.returns-clause-told
 returns-clause-told g c failed =
     let u = rw c.in_default.ensures.lines at c.loop-line.invariant.under in
     ends_run c.args.network.now c.args.header.now (lines_from c.args.below.now) c.loop-line.number c.loop-line.evaluation c.loop-line.text.items (g.O.Sink.written c.args.out.now) (g.O.Sink.written c.loop-line.out) (g.O.Sink.written c.flush-2.new.out) failed _ _ c.flush-2.result u c.flush-2.ensures.text
+
+-- a blank line
+pub loop-line-preserved : goal.loop-line-preserved
+loop-line-preserved g c =
+    let line = c.in-Some.line.now in
+    let blank : is_blank line ≡ true = sym c.is_blank.ensures ∙ c.if-not-is_blank.false in
+    let u = rw c.in-Some.ensures.lines at c.loop-line.invariant.under in
+    record {
+      under = under_blank c.args.network.now c.args.header.now (lines_from c.args.below.now) (lines_from c.in-Some.after.now) line c.loop-line.number c.loop-line.evaluation c.loop-line.text.items (g.O.Sink.written c.args.out.now) (g.O.Sink.written c.loop-line.out) u blank;
+      fewer = omega (arith, c.loop-line.invariant.fewer, c.in-Some.ensures.shorter);
+      counted = c.loop-line.invariant.counted;
+    }
