@@ -1,56 +1,52 @@
-// `fx_io`: files in memory, files on disk, and devices that fail at chosen calls.
+// `fx_io`: files in memory and on disk, and devices that fail at chosen calls.
 
 use crate::stored_files::stored_files;
 use fx_io::{
-    FileShelf, MemShelf, MemSink, ReadAllFault, Shelf, ShelfFault, Sink, SinkFault, StdSink,
-    SteadyShelf, SteadySink, read_all,
+    FileShelf, MemShelf, ReadAllFault, Shelf, ShelfFault, Sink, StdSink, SteadyShelf, read_all,
 };
+use std::alloc::{AllocError, Global};
 use std::test::Fail;
 
-// A full file, one that is a byte longer, one that is empty, and one that the first hides.
-const FILES: [(&str, &str); 4] = [
-    ("full", "four"),
-    ("over", "fives"),
-    ("empty", ""),
-    ("full", "hidden"),
+// A full file, one that is a byte longer, and one that the first hides.
+const FILES: [(&str, &str); 3] = [("full", "four"), ("over", "fives"), ("full", "hidden")];
+
+// The names of files that are read up to four bytes, the call of the shelf that fails, and what is read, with the fault if
+// there is one. A start is call 0, its reads are 1 and 2.
+const READS: [(&str, u64, &[u8], Option<ReadAllFault>); 5] = [
+    ("full", 3, b"four", None),
+    ("over", 3, b"", Some(ReadAllFault::TooLong)),
+    ("absent", 3, b"", Some(ReadAllFault::ReadFault)),
+    ("full", 0, b"", Some(ReadAllFault::ReadFault)),
+    ("full", 2, b"", Some(ReadAllFault::ReadFault)),
 ];
 
-#[test]
-fn reads_up_to_the_limit(rt: HostRuntime) -> Result<(), Fail> {
-    let alloc = rt.alloc();
-    let mut shelf = SteadyShelf::new(alloc, stored_files(alloc, &FILES)?);
-    let full = read_all(alloc, &mut shelf, "full", 4)?;
-    assert_eq!(rt; full.as_slice(), b"four".as_slice());
-    let over = read_all(alloc, &mut shelf, "over", 4);
-    assert!(rt; matches!(over, Err(ReadAllFault::TooLong)));
-    for name in ["empty", "absent"] {
-        let none = read_all(alloc, &mut shelf, name, 4)?;
-        assert!(rt; none.is_empty(), "{name}");
+// What is read of a file in memory.
+fn read(
+    alloc: Global,
+    name: &str,
+    failing: u64,
+) -> Result<(Vec<u8>, Option<ReadAllFault>), AllocError> {
+    let files = stored_files(alloc, &FILES)?;
+    let mut shelf = MemShelf::new(alloc, files, vec![in alloc; failing]?);
+    match read_all(alloc, &mut shelf, name, 4) {
+        Ok(bytes) => Ok((bytes, None)),
+        Err(fault) => Ok((Vec::new(alloc), Some(fault))),
     }
-    let mut sink = SteadySink::new(alloc);
-    sink.write(full.as_slice())?;
-    assert_eq!(rt; sink.written(), b"four".as_slice());
-    Ok(())
+}
+
+// What is read of a file by a shelf that doesn't fail.
+fn read_steadily(alloc: Global) -> Result<Vec<u8>, Fail> {
+    let mut shelf = SteadyShelf::new(alloc, stored_files(alloc, &FILES)?);
+    Ok(read_all(alloc, &mut shelf, "full", 4)?)
 }
 
 #[test]
-fn fails_at_chosen_calls(rt: HostRuntime) -> Result<(), Fail> {
-    let alloc = rt.alloc();
-    // The start of the first file is call 0, and its reads are 1 and 2.
-    let failing = vec![in alloc; 2u64, 3u64]?;
-    let mut shelf = MemShelf::new(alloc, stored_files(alloc, &FILES)?, failing);
-    for name in ["full", "full", "absent"] {
-        let fault = read_all(alloc, &mut shelf, name, 4);
-        assert!(rt; matches!(fault, Err(ReadAllFault::ReadFault)), "{name}");
+fn reads_files_in_memory(rt: HostRuntime) -> Result<(), Fail> {
+    for (name, failing, bytes, fault) in READS {
+        let found = read(rt.alloc(), name, failing)?;
+        assert_eq!(rt; (found.0.as_slice(), found.1), (bytes, fault), "{name}");
     }
-    let full = read_all(alloc, &mut shelf, "full", 4)?;
-    assert_eq!(rt; full.as_slice(), b"four".as_slice());
-
-    let mut sink = MemSink::new(alloc, vec![in alloc; 1u64]?);
-    assert_eq!(rt; sink.write(b"one "), Ok(()));
-    assert_eq!(rt; sink.write(b"three"), Err(SinkFault::Failed));
-    assert_eq!(rt; sink.write(b"!"), Ok(()));
-    assert_eq!(rt; sink.written(), b"one th!".as_slice());
+    assert_eq!(rt; read_steadily(rt.alloc())?.as_slice(), b"four".as_slice());
     Ok(())
 }
 

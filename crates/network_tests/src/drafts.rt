@@ -22,45 +22,37 @@ const UNLIKE: Variant = Variant {
     o: Ty::S16,
 };
 
-// What the cases change of a network of two inputs, the conversion of the second to the first one's
-// binary point, and the sum of both.
+// What the cases change of a network of two inputs, the conversion of the second to the first one's binary point, and
+// the sum of both.
 #[derive(Clone, Copy)]
 struct Sum {
     // The least value of the first input.
     lo: i64,
-    // The name of the sum, its binary point and its block.
-    name: &'static [u8],
-    point: u8,
-    op: ArithOp,
+    // The name of the sum, its types and its second argument.
+    name: [u8; 1],
     v: Variant,
     y: WireNo,
-    z: WireNo,
-    sh: u8,
-    outs: &'static [WireNo],
+    // How often it is an output.
+    out_count: usize,
 }
 
 const SUM: Sum = Sum {
     lo: 0,
-    name: b"s",
-    point: 0,
-    op: ArithOp::Add,
+    name: [b's'],
     v: SAME,
     y: WireNo(2),
-    z: WireNo(0),
-    sh: 0,
-    outs: &[WireNo(3)],
+    out_count: 1,
 };
 
 // Changes of the network, each with the wire and the kind for which it is refused.
-const REFUSED: [(Sum, u32, NetKind); 12] = [
-    (Sum { name: b"a", ..SUM }, 3, NetKind::Repeated),
+const REFUSED: [(Sum, u32, NetKind); 6] = [
     (
         Sum {
-            op: ArithOp::Mod,
+            name: [b'a'],
             ..SUM
         },
         3,
-        NetKind::NotBuilt,
+        NetKind::Repeated,
     ),
     (
         Sum {
@@ -71,29 +63,10 @@ const REFUSED: [(Sum, u32, NetKind); 12] = [
         NetKind::LaterWire,
     ),
     (Sum { v: UNLIKE, ..SUM }, 3, NetKind::TypeDiffers),
-    (
-        Sum {
-            z: WireNo(1),
-            ..SUM
-        },
-        3,
-        NetKind::TypeDiffers,
-    ),
-    (
-        Sum {
-            op: ArithOp::MulShRight,
-            sh: 16,
-            ..SUM
-        },
-        3,
-        NetKind::OutOfRange,
-    ),
-    (Sum { sh: 1, ..SUM }, 3, NetKind::OutOfRange),
-    (Sum { point: 16, ..SUM }, 3, NetKind::OutOfRange),
     (Sum { lo: 1001, ..SUM }, 0, NetKind::OutOfRange),
     (
         Sum {
-            outs: &[WireNo(3), WireNo(3)],
+            out_count: 2,
             ..SUM
         },
         4,
@@ -101,13 +74,12 @@ const REFUSED: [(Sum, u32, NetKind); 12] = [
     ),
     (
         Sum {
-            outs: &[WireNo(4)],
+            out_count: 0,
             ..SUM
         },
         4,
-        NetKind::LaterWire,
+        NetKind::Missing,
     ),
-    (Sum { outs: &[], ..SUM }, 4, NetKind::Missing),
 ];
 
 fn wire(alloc: Global, name: &[u8], kind: Kind, item: Item) -> Result<Wire, NameFault> {
@@ -132,15 +104,18 @@ fn draft_of(alloc: Global, sum: Sum) -> Result<Draft, Fail> {
     });
     wires.push(wire(alloc, b"c", Kind::Num(Ty::S16, 0), c)?)?;
     let s = Item::Block(Block::Arith {
-        op: sum.op,
+        op: ArithOp::Add,
         v: sum.v,
         x: WireNo(0),
         y: sum.y,
-        z: sum.z,
-        sh: sum.sh,
+        z: WireNo(0),
+        sh: 0,
     });
-    wires.push(wire(alloc, sum.name, Kind::Num(Ty::S16, sum.point), s)?)?;
-    let outs = Vec::from_slice(alloc, sum.outs)?;
+    wires.push(wire(alloc, &sum.name, Kind::Num(Ty::S16, 0), s)?)?;
+    let mut outs = Vec::new(alloc);
+    for _ in 0..sum.out_count {
+        outs.push(WireNo(3))?;
+    }
     Ok(Draft { wires, outs })
 }
 
@@ -151,16 +126,30 @@ fn refusal_of(alloc: Global, sum: Sum) -> Result<Option<NetRefusal>, Fail> {
     }
 }
 
+// How many wires, parts, inputs and outputs a network has.
+fn counts(net: &Network) -> [usize; 4] {
+    [
+        net.wires().len(),
+        net.parts().len(),
+        net.inputs().len(),
+        net.outs().len(),
+    ]
+}
+
 #[test]
 fn makes_a_network(rt: HostRuntime) -> Result<(), Fail> {
     let net = Network::new(rt.alloc(), draft_of(rt.alloc(), SUM)?)?;
-    assert_eq!(rt; [net.wires().len(), net.parts().len()], [4, 4]);
+    let found = (net.find(b"c"), net.find(b"t"));
+    let part = net.part_of(WireNo(2), Role::Value);
     assert_eq!(rt;
-        [net.inputs(), net.outs()],
-        [[WireNo(0), WireNo(1)].as_slice(), [WireNo(3)].as_slice()]
+        (counts(&net), found, part, net.smooth()),
+        (
+            [4, 4, 2, 1],
+            (Some(WireNo(2)), None),
+            Some(PartNo(2)),
+            Ok(())
+        )
     );
-    assert_eq!(rt; [net.find(b"c"), net.find(b"t")], [Some(WireNo(2)), None]);
-    assert!(rt; net.part_of(WireNo(2), Role::Value) == Some(PartNo(2)) && net.smooth().is_ok());
     Ok(())
 }
 

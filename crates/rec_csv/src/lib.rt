@@ -8,8 +8,6 @@ mod line_fields;
 mod plain_rows;
 mod rows;
 mod slots;
-#[cfg(test)]
-mod tests;
 
 pub use columns::Column;
 pub use faults::{HeadFault, RowFault};
