@@ -1,8 +1,9 @@
 -- How a shelf stands while a file is read.
-use Rattle.std.proofs.Common.{◌≡◌, ℕ, ◌≤◌, List}
+use Rattle.std.proofs.Common.{◌≡◌, ℕ, ◌≤◌, List, ◌++◌, Ok, sym, ap, ◌∙◌, append_assoc, arith}
 use Rattle.std.specs.Prelude.{Some, None, ⊤}
 use Rattle.std.specs.declared.option.Option.{Option}
 use Rattle.std.specs.Io.KnownBytes.{Consumes}
+use Rattle.fx_io.specs.Causes.{HasCause}
 use Rattle.fx_io.specs.Outside.{bytes_of}
 
 -- the named file is these bytes and then what is left, where the files are told
@@ -15,3 +16,16 @@ pub record IsUnfailed (faults faults' : ℕ) (failed failed' named name : List �
   pub counted : faults ≤ faults'
   pub kept : failed' ≡ failed
   pub started : named ≡ name
+
+-- one read more
+pub read_more : (files : Option (List (List ℕ × List ℕ))) (name xs ys piece : List ℕ) (left left' : Option (List ℕ)) → IsRead files name xs left → ys ≡ xs ++ piece → Consumes left left' piece → IsRead files name ys left'
+read_more None name xs ys piece left left' h e c = tt
+read_more (Some files) name xs ys piece None left' h e c = absurd h
+read_more (Some files) name xs ys piece (Some l) None h e c = absurd c
+read_more (Some files) name xs ys piece (Some l) (Some l') h e c = h ∙ ap (λ t. xs ++ t) c ∙ sym (append_assoc xs piece l') ∙ ap (λ t. t ++ l') (sym e)
+
+pub unfailed_more : (a b d : ℕ) (failed failed' failed'' named named' name : List ℕ) (n : ℕ) → IsUnfailed a b failed failed' named name → HasCause b d named' failed' failed'' (Ok n) → named' ≡ named → IsUnfailed a d failed failed'' named' name
+unfailed_more a b d failed failed' failed'' named named' name n h c e =
+    let counted = h.counted in
+    let more = c.0 in
+    record { counted = omega (arith, counted, more); kept = c.1 ∙ h.kept; started = e ∙ h.started }

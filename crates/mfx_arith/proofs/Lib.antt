@@ -1,3 +1,4 @@
 pub mod Examples
 pub mod TypesTaken
 pub mod WholeNumbers
+mod WordProducts

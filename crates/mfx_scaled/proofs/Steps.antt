@@ -203,12 +203,10 @@ div_is t x y points =
     let m = max points.a p in
     quotient_is t _ (is_whole_at_point x points.a p m (omega arith) (omega arith)) (is_whole y (2 ^ (m - p)) (pow_pos (m - p)))
 
--- what is stored of a count, of a count that was raised, and of a product; the two cases of a quotient; and the forms
+-- what is stored of a count, and of a count that was raised; the two cases of a quotient; and the forms
 pub ruleset storing = (count_in-lowered, to_z-of_z)
 
 pub ruleset converting = (count_in-raised, to_z-of_z)
-
-pub ruleset shifting = (count_in-shifted, to_z-of_z)
 
 pub ruleset quotients = (quotient-by_zero_end, quotient-by_other_nearest, to_z-of_z)
 

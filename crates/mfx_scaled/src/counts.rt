@@ -143,7 +143,6 @@ impl Count {
     }
 
     // The same number at a binary point that isn't lower.
-    #[tactic(auto, using(crate::proofs::Sizes::product_small))]
     fn raised(self, point: u8) -> Count
         requires size { unsigned_abs self.number < 2 ^ 32 }
         requires up { self.point ≤ point }
@@ -162,7 +161,6 @@ impl Count {
 impl Product {
     /// The number as a raw count of `t` at the binary point `point`: rounded toward zero, and the
     /// nearest count that `t` has.
-    #[tactic(auto, using(crate::proofs::Steps::shifting))]
     pub(crate) fn stored(self, t: Ty, point: u8) -> i64
         requires size { unsigned_abs self.number < 2 ^ 64 }
         requires from { self.point ≤ 30 }
