@@ -1,7 +1,7 @@
 -- The canonical text of a network: a line for each wire and each output, with one space between words.
 use Rattle.std.specs.Prelude.{◌≡◌, ℕ, zero, suc, pos, List, [], ◌∷◌, ◌++◌, map, length, take, codes, Ok, if◌then◌else◌}
 use Rattle.std.specs.Fmt.{signed_decimal}
-use Rattle.text_words.specs.Printed.{word_lines}
+use Rattle.text_words.specs.Printed.{spaced, word_lines}
 use Rattle.fx_routines.specs.declared.table.Routine.TheVariants.{Arith as NamedArith, Scaled as NamedScaled}
 use Rattle.fx_routines.specs.Names.{type_word, routine_name}
 use Rattle.net_model.specs.declared.wires.WireNo.{WireNo}
@@ -56,6 +56,11 @@ out_words wires o = codes "out" ∷ (wire_at wires o.0).name ∷ []
 -- the words of all lines, in their order
 abbrev pub words_printed : NetData → List (List (List ℕ))
 words_printed net = (codes "net" ∷ codes "1" ∷ []) ∷ (map (wire_words net.wires) net.wires ++ map (out_words net.wires) net.outs)
+
+-- lines of words below another line, each behind the line feed that ends the line above
+abbrev pub lines_below : List (List (List ℕ)) → List ℕ
+lines_below [] = []
+lines_below (words ∷ lines) = 10 ∷ spaced words ++ lines_below lines
 
 -- the canonical text of a network
 unfoldable pub text_of : NetData → List ℕ

@@ -1,10 +1,10 @@
 // Prints the canonical text of a network.
 ghost use Rattle.std.specs.Prelude.{◌≡◌, ◌++◌, [], ◌∷◌, true, pos, map, take, codes, IfOk, OnOk, if◌then◌else◌};
 ghost use Rattle.std.specs.Fmt.{signed_decimal};
-ghost use Rattle.text_words.specs.Printed.{behind_spaces, spaced, word_lines};
+ghost use Rattle.text_words.specs.Printed.{behind_spaces, spaced};
 ghost use Rattle.net_model.specs.Wires.{wire_at};
 ghost use Rattle.net_model.specs.Validity.{item_agrees, takes_block};
-ghost use Rattle.net_text.specs.Printing.{PrintedNetworksAreRead, argument_words, block_name, kind_word, out_words, point_word, shift_words, text_of, wire_words};
+ghost use Rattle.net_text.specs.Printing.{PrintedNetworksAreRead, argument_words, block_name, kind_word, lines_below, out_words, point_word, shift_words, text_of, wire_words};
 
 use crate::routine_word::{Routine, arity_of};
 use fx_routines::{Routine as Named, push_name, type_word};
@@ -14,13 +14,14 @@ use std::alloc::{AllocError, Global};
 
 /// The canonical text of a network: its wires and its outputs in their order, a line each, with one
 /// space between words and no comment.
-#[tactic(auto, using(crate::proofs::PrintedPieces::word_lines_append), unfolding(crate::specs::Printing::text_of))]
+#[tactic(auto, unfolding(crate::specs::Printing::text_of))]
 pub fn print_net(alloc: Global, net: &Network) -> Result<Vec<u8>, AllocError>
     ensures { IfOk result (λ text. text.items ≡ text_of net.now) }
 {
-    let mut text = Vec::from_slice(alloc, b"net 1\n")?;
+    let mut text = Vec::from_slice(alloc, b"net 1")?;
     push_wires(&mut text, net)?;
     push_outs(&mut text, net)?;
+    text.push(b'\n')?;
     Ok(text)
 }
 
@@ -29,50 +30,38 @@ pub fn law_of_printing()
     ensures { PrintedNetworksAreRead }
 {}
 
-// Appends the lines of the wires.
+// Appends the lines of the wires, each behind the line feed of the line above.
 fn push_wires(text: &mut Vec<u8>, net: &Network) -> Result<(), AllocError>
-    ensures { OnOk result (text.new.items ≡ text.old.items ++ word_lines (map (wire_words net.now.wires) net.now.wires)) }
+    ensures { OnOk result (text.new.items ≡ text.old.items ++ lines_below (map (wire_words net.now.wires) net.now.wires)) }
 {
     let wires = net.wires();
     for wire in wires {
-        push_wire_line(text, wires, wire)?;
+        push_wire(text, wires, wire)?;
     }
     Ok(())
 }
 
-// Appends the lines of the outputs.
+// Appends the lines of the outputs, each behind the line feed of the line above.
 fn push_outs(text: &mut Vec<u8>, net: &Network) -> Result<(), AllocError>
-    ensures { OnOk result (text.new.items ≡ text.old.items ++ word_lines (map (out_words net.now.wires) net.now.outs)) }
+    ensures { OnOk result (text.new.items ≡ text.old.items ++ lines_below (map (out_words net.now.wires) net.now.outs)) }
 {
     let wires = net.wires();
     for out in net.outs() {
-        push_out_line(text, wires, *out)?;
+        push_out(text, wires, *out)?;
     }
     Ok(())
 }
 
-fn push_out_line(text: &mut Vec<u8>, wires: &[Wire], out: WireNo) -> Result<(), AllocError>
-    ensures { OnOk result (text.new.items ≡ text.old.items ++ (spaced (out_words wires.now out) ++ 10 ∷ [])) }
+fn push_out(text: &mut Vec<u8>, wires: &[Wire], out: WireNo) -> Result<(), AllocError>
+    ensures { OnOk result (text.new.items ≡ text.old.items ++ 10 ∷ spaced (out_words wires.now out)) }
 {
-    text.extend_from_slice(b"out")?;
-    push_word(text, name_of(wires, out))?;
-    text.push(b'\n')?;
-    Ok(())
+    push_piece(text, b'\n', b"out")?;
+    push_piece(text, b' ', name_of(wires, out))
 }
 
-fn push_wire_line(text: &mut Vec<u8>, wires: &[Wire], wire: &Wire) -> Result<(), AllocError>
-    requires { item_agrees wires.now wire.now.kind wire.now.item ≡ true }
-    ensures { OnOk result (text.new.items ≡ text.old.items ++ (spaced (wire_words wires.now wire.now) ++ 10 ∷ [])) }
-{
-    push_wire(text, wires, wire)?;
-    text.push(b'\n')?;
-    Ok(())
-}
-
-// Appends the words of a wire's line.
 fn push_wire(text: &mut Vec<u8>, wires: &[Wire], wire: &Wire) -> Result<(), AllocError>
     requires { item_agrees wires.now wire.now.kind wire.now.item ≡ true }
-    ensures { OnOk result (text.new.items ≡ text.old.items ++ spaced (wire_words wires.now wire.now)) }
+    ensures { OnOk result (text.new.items ≡ text.old.items ++ 10 ∷ spaced (wire_words wires.now wire.now)) }
 {
     let name = wire.name.bytes();
     match wire.item {
@@ -89,25 +78,18 @@ fn push_input(
     lo: i64,
     hi: i64,
 ) -> Result<(), AllocError>
-    ensures { OnOk result (text.new.items ≡ text.old.items ++ spaced (codes "in" ∷ name.now ∷ kind_word kind ∷ signed_decimal lo ∷ signed_decimal hi ∷ [])) }
+    ensures { OnOk result (text.new.items ≡ text.old.items ++ 10 ∷ spaced (codes "in" ∷ name.now ∷ kind_word kind ∷ signed_decimal lo ∷ signed_decimal hi ∷ [])) }
 {
     push_front(text, b"in", name, kind)?;
-    push_range(text, lo, hi)
-}
-
-// Appends the ends of a range, each behind a space.
-fn push_range(text: &mut Vec<u8>, lo: i64, hi: i64) -> Result<(), AllocError>
-    ensures { OnOk result (text.new.items ≡ text.old.items ++ behind_spaces (signed_decimal lo ∷ signed_decimal hi ∷ [])) }
-{
-    push_number(text, lo)?;
-    push_number(text, hi)
+    push_number(text, b' ', lo)?;
+    push_number(text, b' ', hi)
 }
 
 fn push_const(text: &mut Vec<u8>, name: &[u8], kind: Kind, value: i64) -> Result<(), AllocError>
-    ensures { OnOk result (text.new.items ≡ text.old.items ++ spaced (codes "const" ∷ name.now ∷ kind_word kind ∷ signed_decimal value ∷ [])) }
+    ensures { OnOk result (text.new.items ≡ text.old.items ++ 10 ∷ spaced (codes "const" ∷ name.now ∷ kind_word kind ∷ signed_decimal value ∷ [])) }
 {
     push_front(text, b"const", name, kind)?;
-    push_number(text, value)
+    push_number(text, b' ', value)
 }
 
 fn push_block(
@@ -118,27 +100,19 @@ fn push_block(
     block: Block,
 ) -> Result<(), AllocError>
     requires { takes_block block ≡ true }
-    ensures { OnOk result (text.new.items ≡ text.old.items ++ spaced (codes "wire" ∷ name.now ∷ kind_word kind ∷ codes "=" ∷ block_name block ∷ (argument_words wires.now block ++ shift_words block))) }
+    ensures { OnOk result (text.new.items ≡ text.old.items ++ 10 ∷ spaced (codes "wire" ∷ name.now ∷ kind_word kind ∷ codes "=" ∷ block_name block ∷ (argument_words wires.now block ++ shift_words block))) }
 {
     push_front(text, b"wire", name, kind)?;
-    push_call(text, wires, block)
-}
-
-// Appends what stands behind the type of a block's wire.
-fn push_call(text: &mut Vec<u8>, wires: &[Wire], block: Block) -> Result<(), AllocError>
-    requires { takes_block block ≡ true }
-    ensures { OnOk result (text.new.items ≡ text.old.items ++ behind_spaces (codes "=" ∷ block_name block ∷ (argument_words wires.now block ++ shift_words block))) }
-{
     push_routine(text, block)?;
     push_given(text, wires, block)
 }
 
 // Appends the keyword, the name and the type that a wire's line begins with.
 fn push_front(text: &mut Vec<u8>, keyword: &[u8], name: &[u8], kind: Kind) -> Result<(), AllocError>
-    ensures { OnOk result (text.new.items ≡ text.old.items ++ spaced (keyword.now ∷ name.now ∷ kind_word kind ∷ [])) }
+    ensures { OnOk result (text.new.items ≡ text.old.items ++ 10 ∷ spaced (keyword.now ∷ name.now ∷ kind_word kind ∷ [])) }
 {
-    text.extend_from_slice(keyword)?;
-    push_word(text, name)?;
+    push_piece(text, b'\n', keyword)?;
+    push_piece(text, b' ', name)?;
     push_kind(text, kind)
 }
 
@@ -148,7 +122,7 @@ fn push_routine(text: &mut Vec<u8>, block: Block) -> Result<(), AllocError>
     requires { takes_block block ≡ true }
     ensures { OnOk result (text.new.items ≡ text.old.items ++ behind_spaces (codes "=" ∷ block_name block ∷ [])) }
 {
-    text.extend_from_slice(b" = ")?;
+    push_piece(text, b' ', b"= ")?;
     match block {
         Block::Arith { op, v, .. } => push_name(text, Named::Arith(op), v),
         Block::Scaled { op, v, .. } => push_name(text, Named::Scaled(op), v),
@@ -200,7 +174,11 @@ fn push_names(
 fn push_if(text: &mut Vec<u8>, there: bool, word: &[u8]) -> Result<(), AllocError>
     ensures { OnOk result (text.new.items ≡ text.old.items ++ (if there then 32 ∷ word.now else [])) }
 {
-    if there { push_word(text, word) } else { Ok(()) }
+    if there {
+        push_piece(text, b' ', word)
+    } else {
+        Ok(())
+    }
 }
 
 // Appends the count of places behind a space, where a block's routine has one.
@@ -217,7 +195,7 @@ fn push_places(text: &mut Vec<u8>, there: bool, sh: u8) -> Result<(), AllocError
     ensures { OnOk result (text.new.items ≡ text.old.items ++ behind_spaces (if there then signed_decimal (pos sh) ∷ [] else [])) }
 {
     if there {
-        push_number(text, i64::from(sh))
+        push_number(text, b' ', i64::from(sh))
     } else {
         Ok(())
     }
@@ -229,10 +207,10 @@ fn push_kind(text: &mut Vec<u8>, kind: Kind) -> Result<(), AllocError>
 {
     match kind {
         Kind::Num(ty, point) => {
-            push_word(text, type_word(ty))?;
+            push_piece(text, b' ', type_word(ty))?;
             push_point(text, point)
         }
-        Kind::Truth => push_word(text, b"bool"),
+        Kind::Truth => push_piece(text, b' ', b"bool"),
     }
 }
 
@@ -243,31 +221,23 @@ fn push_point(text: &mut Vec<u8>, point: u8) -> Result<(), AllocError>
     if point == 0 {
         return Ok(());
     }
-    text.push(b'.')?;
-    push_digits(text, i64::from(point))
+    push_number(text, b'.', i64::from(point))
 }
 
-// Appends a number behind a space.
-fn push_number(text: &mut Vec<u8>, number: i64) -> Result<(), AllocError>
-    ensures { OnOk result (text.new.items ≡ text.old.items ++ 32 ∷ signed_decimal number) }
-{
-    text.push(b' ')?;
-    push_digits(text, number)
-}
-
-fn push_digits(text: &mut Vec<u8>, number: i64) -> Result<(), AllocError>
-    ensures { OnOk result (text.new.items ≡ text.old.items ++ signed_decimal number) }
+// Appends a number behind the byte that stands between it and what is before.
+fn push_number(text: &mut Vec<u8>, between: u8, number: i64) -> Result<(), AllocError>
+    ensures { OnOk result (text.new.items ≡ text.old.items ++ between ∷ signed_decimal number) }
 {
     let mut digits = Buffer::new();
-    text.extend_from_slice(digits.format(number).as_bytes())
+    push_piece(text, between, digits.format(number).as_bytes())
 }
 
-// Appends a word behind a space.
-fn push_word(text: &mut Vec<u8>, word: &[u8]) -> Result<(), AllocError>
-    ensures { OnOk result (text.new.items ≡ text.old.items ++ 32 ∷ word.now) }
+// Appends a piece of a line behind the byte that stands between it and what is before.
+fn push_piece(text: &mut Vec<u8>, between: u8, piece: &[u8]) -> Result<(), AllocError>
+    ensures { OnOk result (text.new.items ≡ text.old.items ++ between ∷ piece.now) }
 {
-    text.push(b' ')?;
-    text.extend_from_slice(word)
+    text.push(between)?;
+    text.extend_from_slice(piece)
 }
 
 // The name of a wire.

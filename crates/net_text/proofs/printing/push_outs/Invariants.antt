@@ -1,8 +1,7 @@
--- With the lines from here on, the text is what it is with all of them.
-use Rattle.std.proofs.Common.{◌≡◌, ◌++◌, map, drop}
-use Rattle.text_words.specs.Printed.{word_lines}
-use Rattle.net_text.specs.Printing.{out_words}
+use Rattle.std.proofs.Common.{◌≡◌, ◌++◌, map, take}
+use Rattle.net_text.specs.Printing.{lines_below, out_words}
 use Rattle.net_text.proofs.printing.push_outs.Given as goal
 
+-- the text so far has the lines of the outputs so far
 abbrev pub invariant-loop-out : goal.invariant-loop-out
-invariant-loop-out l = l.text.items ++ word_lines (map (out_words l.wires) (drop l.out-index l.out-items)) ≡ l.initial.text.items ++ word_lines (map (out_words l.initial.net.wires) l.initial.net.outs)
+invariant-loop-out l = l.text.items ≡ l.fn.text.items ++ lines_below (map (out_words l.fn.net.wires) (take l.out-index l.fn.net.outs))

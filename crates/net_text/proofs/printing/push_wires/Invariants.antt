@@ -1,8 +1,7 @@
--- With the lines from here on, the text is what it is with all of them.
-use Rattle.std.proofs.Common.{◌≡◌, ◌++◌, map, drop}
-use Rattle.text_words.specs.Printed.{word_lines}
-use Rattle.net_text.specs.Printing.{wire_words}
+use Rattle.std.proofs.Common.{◌≡◌, ◌++◌, map, take}
+use Rattle.net_text.specs.Printing.{lines_below, wire_words}
 use Rattle.net_text.proofs.printing.push_wires.Given as goal
 
+-- the text so far has the lines of the wires so far
 abbrev pub invariant-loop-wire : goal.invariant-loop-wire
-invariant-loop-wire l = l.text.items ++ word_lines (map (wire_words l.wires) (drop l.wire-index l.wires)) ≡ l.initial.text.items ++ word_lines (map (wire_words l.initial.net.wires) l.initial.net.wires)
+invariant-loop-wire l = l.text.items ≡ l.fn.text.items ++ lines_below (map (wire_words l.fn.net.wires) (take l.wire-index l.fn.net.wires))
