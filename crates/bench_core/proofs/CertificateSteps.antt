@@ -1,5 +1,5 @@
 -- The definition of a certificate's text, line by line.
-use Rattle.std.proofs.Common.{◌≡◌, refl, sym, ap, ◌∙◌, ℕ, ◌+◌, ◌<◌, Bool, true, false, ◌==◌, List, [], ◌∷◌, ◌++◌, length, Result, Ok, Err, arith}
+use Rattle.std.proofs.Common.{◌≡◌, ◌≢◌, refl, sym, ap, ◌∙◌, ℕ, ◌+◌, ◌<◌, true, false, ◌==◌, List, [], ◌∷◌, ◌++◌, length, Result, Ok, Err, arith}
 use Rattle.std.proofs.lemmas.Bool.Decides.{nat_tests}
 use Rattle.text_words.specs.Lines.{lines_of, words_of}
 use Rattle.net_model.specs.declared.wires.Wire.{Wire}
@@ -9,7 +9,7 @@ use Rattle.bench_core.specs.declared.cert_kind.CertKind.{CertKind}
 use Rattle.bench_core.specs.declared.cert_kind.CertKind.TheVariants.{Missing}
 use Rattle.bench_core.specs.declared.cert_kind.CertFault.{CertFault}
 use Rattle.bench_core.specs.CertificateText.{located, part_line, after_line, ended, walked, is_head, no_head, from_head, certificate_of}
-use Rattle.text_words.specs.Steps.{◌>>=◌, demand}
+use Rattle.text_words.specs.Steps.{◌>>=◌}
 
 -- ---- up to the head
 
@@ -67,25 +67,22 @@ pub walked-fault : (wires : List Wire) (above : ℕ) (entries : List Bounds) (li
 walked-fault wires above entries line rest fault some is =
     walked-line wires above entries line rest some ∙ with_fault wires above entries rest _ fault is
 
+pub walked-accepted : (wires : List Wire) (above : ℕ) (entries : List Bounds) (line : List ℕ) (rest : List (List ℕ)) (entry : Bounds) (k : ℕ) → k ≡ length entries → 0 < length (words_of line) → ◌≡◌ {A = Result Bounds CertKind} (Ok entry) (part_line wires k (words_of line)) → walked wires above entries (line ∷ rest) ≡ walked wires (above + 1) (entries ++ entry ∷ []) rest
+walked-accepted wires above entries line rest entry k same some is =
+    walked-entry wires above entries line rest entry some (ap (located (above + 1)) (sym (is ∙ ap (λ n. part_line wires n (words_of line)) same)))
+
+pub walked-refused : (wires : List Wire) (above : ℕ) (entries : List Bounds) (line : List ℕ) (rest : List (List ℕ)) (kind : CertKind) (k : ℕ) → k ≡ length entries → 0 < length (words_of line) → ◌≡◌ {A = Result Bounds CertKind} (Err kind) (part_line wires k (words_of line)) → walked wires above entries (line ∷ rest) ≡ Err (record { line = above + 1; kind = kind })
+walked-refused wires above entries line rest kind k same some is =
+    walked-fault wires above entries line rest _ some (ap (located (above + 1)) (sym (is ∙ ap (λ n. part_line wires n (words_of line)) same)))
+
 -- ---- behind the last line
 
-at_end : (above : ℕ) (entries : List Bounds) (complete : Bool) (outcome : Result (Unit {0}) CertFault) → outcome ≡ located above (demand complete Missing) → located above (demand complete Missing >>= (λ _. Ok entries)) ≡ (outcome >>= (λ _. Ok entries))
-at_end above entries true outcome is = rw is
-at_end above entries false outcome is = rw is
-
-pub walked-complete : (wires : List Wire) (above : ℕ) (entries : List Bounds) → located above (demand (length entries == length (parts_of wires)) Missing) ≡ Ok tt → walked wires above entries [] ≡ Ok entries
+pub walked-complete : (wires : List Wire) (above : ℕ) (entries : List Bounds) → length entries ≡ length (parts_of wires) → walked wires above entries [] ≡ Ok entries
 unfolding walked ended
-walked-complete wires above entries is =
-    at_end above entries (length entries == length (parts_of wires)) (Ok tt) (sym is)
+walked-complete wires above entries complete =
+    let e : (length entries == length (parts_of wires)) ≡ true = grind (arith, nat_tests) in rw e
 
-pub walked-missing : (wires : List Wire) (above : ℕ) (entries : List Bounds) (fault : CertFault) → located above (demand (length entries == length (parts_of wires)) Missing) ≡ Err fault → walked wires above entries [] ≡ Err fault
+pub walked-missing : (wires : List Wire) (above : ℕ) (entries : List Bounds) (parts : ℕ) → parts ≡ length (parts_of wires) → length entries ≢ parts → walked wires above entries [] ≡ Err (record { line = above; kind = Missing })
 unfolding walked ended
-walked-missing wires above entries fault is =
-    at_end above entries (length entries == length (parts_of wires)) (Err fault) (sym is)
-
--- behind the last line, by the tests that the code makes
-pub walked-tested : (wires : List Wire) (above : ℕ) (entries : List Bounds) (complete : Bool) (outcome : Result (Unit {0}) CertKind) (given : Result (Unit {0}) CertFault) → complete ≡ (length entries == length (parts_of wires)) → outcome ≡ demand complete Missing → given ≡ located above outcome → given ≡ Ok tt → walked wires above entries [] ≡ Ok entries
-walked-tested wires above entries complete outcome given tested demanded is passed =
-    walked-complete wires above entries (sym (ap (λ b. located above (demand b Missing)) tested) ∙ sym (is ∙ ap (located above) demanded) ∙ passed)
-
-pub ruleset walk_steps = (walked-blank, walked-entry, walked-fault, walked-complete, walked-missing)
+walked-missing wires above entries parts is missing =
+    let e : (length entries == length (parts_of wires)) ≡ false = grind (arith, nat_tests) in rw e

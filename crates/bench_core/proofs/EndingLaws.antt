@@ -115,24 +115,18 @@ cause_behind_printing files first now failed a b c (Err (CannotRead text)) l h =
 cause_behind_printing files first now failed a b c (Err CannotWrite) l h = rose_earlier a b c l h
 cause_behind_printing files first now failed a b c (Err OutOfMemory) l h = tt
 
--- a step over a file ended the command, which hands its ending on
-pub stopped : {T A : Type 0} (file : List ℕ) (step : Result A Refusal) (next : A → Outcome) (before now : ℕ) (failed : List ℕ) (old : Option (List ℕ)) (e : Ending) (r : Result T Ending) → StopsAt step e → HasStopCause file before now failed e → IsErrAnd r (λ x. x ≡ e) → Ends (reading file step next) failed old old r
-stopped file step next before now failed old e (Ok v) h c is = absurd is
-stopped file step next before now failed old e (Err x) h c is =
-    subst (EndsEarly (reading file step next) failed old old) (sym is) (stops file step next before now failed old e h c)
+-- a step over the first of a command's files ended the command: why
+pub stop_causes : (file : List ℕ) (files : List (List ℕ)) (before now : ℕ) (failed : List ℕ) (out_before out_now : ℕ) (e : Ending) → HasStopCause file before now failed e → HasEarlyCause (file ∷ files) before now failed out_before out_now e
+stop_causes file files before now failed ob on e h =
+    cause_of_step (file ∷ files) file before before now failed ob on e (named_first file file files refl) (omega arith) h
 
--- and so it is with why
-pub stopped_cause : {T : Type 0} (file : List ℕ) (files : List (List ℕ)) (before now : ℕ) (failed : List ℕ) (out_before out_now : ℕ) (e : Ending) (r : Result T Ending) → HasStopCause file before now failed e → IsErrAnd r (λ x. x ≡ e) → HasEndingCause (file ∷ files) before now failed out_before out_now r
-stopped_cause file files before now failed ob on e (Ok v) c is = absurd is
-stopped_cause {T} file files before now failed ob on e (Err x) c is =
-    subst (λ y. HasEndingCause {T = T} (file ∷ files) before now failed ob on (Err y)) (sym is) (cause_of_step (file ∷ files) file before before now failed ob on e (named_first file file files refl) (omega arith) c)
+-- an ending is handed on
+pub handed_on : {T : Type 0} (o : Outcome) (failed : List ℕ) (old new : Option (List ℕ)) (e : Ending) (r : Result T Ending) → EndsEarly o failed old new e → IsErrAnd r (λ x. x ≡ e) → Ends o failed old new r
+handed_on o failed old new e (Ok v) h is = absurd is
+handed_on o failed old new e (Err x) h is = subst (EndsEarly o failed old new) (sym is) h
 
--- memory ran out before anything was printed
-pub memory_stops : {T : Type 0} (o : Outcome) (failed : List ℕ) (old : Option (List ℕ)) (r : Result T Ending) → IsErrAnd r (λ e. e ≡ OutOfMemory) → Ends o failed old old r
-memory_stops o failed old (Ok v) h = absurd h
-memory_stops o failed old (Err e) h = subst (EndsEarly o failed old old) (sym h) (front_of_none old o.out)
-
-pub memory_causes : {T : Type 0} (files : List (List ℕ)) (first now : ℕ) (failed : List ℕ) (out_before out_now : ℕ) (r : Result T Ending) → IsErrAnd r (λ e. e ≡ OutOfMemory) → HasEndingCause files first now failed out_before out_now r
-memory_causes files first now failed ob on (Ok v) h = absurd h
-memory_causes {T} files first now failed ob on (Err e) h =
-    subst (λ x. HasEndingCause {T = T} files first now failed ob on (Err x)) (sym h) tt
+-- printing stopped behind some other printing, and its ending is handed on: why
+pub printing_causes : {T : Type 0} (bytes : List ℕ) (old new : Option (List ℕ)) (out_first before now : ℕ) (files : List (List ℕ)) (first later : ℕ) (failed : List ℕ) (e : Ending) (r : Result T Ending) → out_first ≤ before → Prints {T = T} bytes old new before now (Err e) → IsErrAnd r (λ x. x ≡ e) → HasEndingCause files first later failed out_first now r
+printing_causes bytes old new a b n files first later failed e (Ok v) l h is = absurd is
+printing_causes {T} bytes old new a b n files first later failed e (Err x) l h is =
+    subst (λ y. HasEndingCause {T = T} files first later failed a n (Err y)) (sym is) (cause_behind_printing {T = T} files first later failed a b n (Err e) l (cause_of_printing {T = T} bytes old new b n files first later failed (Err e) h))

@@ -9,6 +9,7 @@ pub mod PassedSteps
 pub mod HeadlineLaws
 pub mod RunHeadline
 pub mod RejectedPlaces
+pub mod RequestLaws
 pub mod TypedRows
 pub mod PrintedLines
 pub mod RecordingSteps

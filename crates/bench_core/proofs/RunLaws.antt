@@ -1,7 +1,6 @@
 -- How a run stands between two rows, and how it ends.
 use Rattle.std.proofs.Common.{◌≡◌, ℕ, zero, suc, ◌+◌, true, false, List, [], ◌∷◌, ◌++◌, length, take, refl, sym, ap, ◌∙◌, subst, arith, append_assoc, append-nil, ℤ, Option, Result, Ok, Err}
 use Rattle.std.specs.Io.KnownBytes.{Appends}
-use Rattle.std.specs.Result.{IsErrAnd}
 use Rattle.std.proofs.KnownBytes.{Appends-nil, Appends-trans}
 use Rattle.text_words.specs.Lines.{lines_of}
 use Rattle.net_model.specs.Wires.{NetData}
@@ -61,12 +60,6 @@ stops_printed bytes o failed a b before now (Refused n) h = absurd h
 stops_printed bytes o failed a b before now (CannotRead text) h = absurd h
 stops_printed bytes o failed a b before now CannotWrite h = front_of_more a b bytes o.out h.1
 stops_printed bytes o failed a b before now OutOfMemory h = front_of_more a b bytes o.out h
-
--- the printing itself ended a command, which hands its ending on
-pub printing_ended : {T : Type 0} (bytes : List ℕ) (o : Outcome) (failed : List ℕ) (a b : Option (List ℕ)) (before now : ℕ) (e : Ending) (r : Result T Ending) → StopsPrinting bytes a b before now e → IsErrAnd r (λ x. x ≡ e) → Ends (printed bytes o) failed a b r
-printing_ended bytes o failed a b before now e (Ok v) h is = absurd is
-printing_ended bytes o failed a b before now e (Err x) h is =
-    subst (EndsEarly (printed bytes o) failed a b) (sym is) (stops_printed bytes o failed a b before now e h)
 
 -- ---- the header
 

@@ -21,6 +21,12 @@ over_two_files command (net ∷ []) = None
 over_two_files command (net ∷ other ∷ []) = if is_file_word net && is_file_word other then Some (command net other) else None
 over_two_files command (net ∷ other ∷ word ∷ words) = None
 
+-- the same from its word and its two files
+abbrev pub named_over_files : List ℕ → List ℕ → List ℕ → Option Request
+named_over_files command net other =
+    if bytes_eq command (codes "check") then Some (check net other)
+    else (if bytes_eq command (codes "run") then Some (run net other) else None)
+
 -- the command that the words ask for, `check NET CERT` or `run NET REC`; none where they are outside the grammar
 abbrev pub request_of : List (List ℕ) → Option Request
 request_of [] = None

@@ -1,7 +1,5 @@
 ghost use Rattle.std.specs.Prelude.{◌≡◌};
-ghost use Rattle.bench_core.specs.declared.cert_kind.CertError.TheVariants.{Fault, OutOfMemory};
-
-use std::alloc::{AllocError, AllocFailed};
+ghost use Rattle.bench_core.specs.declared.cert_kind.CertError.TheVariants.{Fault};
 
 /// A fault of a certificate's text, in the order in which one line is tested.
 #[derive(Clone, Copy)]
@@ -41,21 +39,5 @@ impl From<CertFault> for CertError {
 
     fn from(fault: CertFault) -> CertError {
         CertError::Fault(fault)
-    }
-}
-
-impl From<AllocError> for CertError {
-    ghost from_gives = { λ _ error. error ≡ OutOfMemory };
-
-    fn from(_error: AllocError) -> CertError {
-        CertError::OutOfMemory
-    }
-}
-
-impl<T: Drop> From<AllocFailed<T>> for CertError {
-    ghost from_gives = { λ _ error. error ≡ OutOfMemory };
-
-    fn from(_error: AllocFailed<T>) -> CertError {
-        CertError::OutOfMemory
     }
 }

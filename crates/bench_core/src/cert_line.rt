@@ -4,6 +4,7 @@ ghost use Rattle.text_words.specs.Lines.{words_of};
 ghost use Rattle.bench_core.specs.CertificateText.{names_next, number_within, part_line};
 
 use crate::cert_kind::CertKind;
+use crate::literal::is_literal;
 use crate::part_naming::name_at;
 use cert_rules::Bounds;
 use net_model::Network;
@@ -17,13 +18,13 @@ const FARTHEST: i64 = 1 << 62;
 pub fn part_line(net: &Network, k: usize, line: &[u8]) -> Result<Bounds, CertKind>
     ensures { result ≡ part_line net.now.wires k (words_of line.now) }
 {
-    let is_part = word_at(line, 0) == b"part".as_slice() && count_words(line) == 5;
-    demand(is_part, CertKind::BadLine)?;
-    demand(names_next(net, k, word_at(line, 1)), CertKind::WrongPart)?;
+    let is_part = is_literal(word_at(line, 0), b"part") && count_words(line) == 5;
+    demand!(is_part, CertKind::BadLine);
+    demand!(names_next(net, k, word_at(line, 1)), CertKind::WrongPart);
     let lo = number_within(-FARTHEST, FARTHEST, word_at(line, 2))?;
     let hi = number_within(-FARTHEST, FARTHEST, word_at(line, 3))?;
     let err = number_within(0, FARTHEST, word_at(line, 4))?;
-    demand(lo <= hi, CertKind::EmptyRange)?;
+    demand!(lo <= hi, CertKind::EmptyRange);
     Ok(Bounds { lo, hi, err })
 }
 
@@ -41,7 +42,9 @@ fn number_within(least: i64, greatest: i64, word: &[u8]) -> Result<i64, CertKind
     requires below_greatest { greatest <ℤ pos (2 ^ 63 - 1) }
     ensures { result ≡ number_within least greatest word.now }
 {
-    let value = number(word).ok_or(CertKind::BadNumber)?;
-    demand(least <= value && value <= greatest, CertKind::BadNumber)?;
+    let Some(value) = number(word) else {
+        return Err(CertKind::BadNumber);
+    };
+    demand!(least <= value && value <= greatest, CertKind::BadNumber);
     Ok(value)
 }

@@ -4,15 +4,16 @@ ghost use Rattle.std.specs.Result.{result_map_both};
 ghost use Rattle.text_words.specs.Lines.{lines_from, words_of};
 ghost use Rattle.net_model.specs.declared.wires.Wire.{Wire};
 ghost use Rattle.net_model.specs.Wires.{parts_of};
-ghost use Rattle.bench_core.specs.CertificateText.{certificate_of, is_head, located, walked};
+ghost use Rattle.bench_core.specs.CertificateText.{certificate_of, is_head, walked};
 ghost use Rattle.bench_core.specs.CertificateReading.{ReadsCertificate};
 
 use crate::cert_kind::{CertError, CertFault, CertKind};
 use crate::cert_line::part_line;
+use crate::literal::is_literal;
 use cert_rules::{Bounds, Certificate};
 use net_model::Network;
 use std::alloc::Global;
-use text_words::{count_words, demand, next_line, without_mark, word_at};
+use text_words::{count_words, next_line, without_mark, word_at};
 
 /// The certificate that the text says for the network: one entry for each part, in the order of the parts. Each line
 /// is looked at until the first that has a fault. Where memory runs out, nothing is said of the text.
@@ -29,7 +30,6 @@ pub fn read_certificate(alloc: Global, net: &Network, text: &[u8]) -> Result<Cer
 }
 
 // The entries that the text says. A line is refused where its entry isn't proper, so they make a certificate.
-#[tactic(auto, using(crate::proofs::CertificateSteps::walk_steps))]
 fn read_entries(alloc: Global, net: &Network, text: &[u8]) -> Result<Vec<Bounds>, CertError>
     requires { length text.now < 2 ^ 32 }
     ensures reads { ReadsCertificate net.now.wires text.now
@@ -38,18 +38,31 @@ fn read_entries(alloc: Global, net: &Network, text: &[u8]) -> Result<Vec<Bounds>
     ensures few { IfOk result (λ v. length v.items < 2 ^ 32) }
 {
     let (mut above, mut rest) = behind_head(text)?;
-    let mut entries = Vec::with_capacity(alloc, net.parts().len())?;
+    let Ok(mut entries) = Vec::with_capacity(alloc, net.parts().len()) else {
+        return Err(CertError::OutOfMemory);
+    };
     while let Some((line, after)) = next_line(rest) {
         above += 1;
         if count_words(line) > 0 {
-            let entry = located(above, part_line(net, entries.len(), line))?;
-            entries.push(entry)?;
+            match part_line(net, entries.len(), line) {
+                Ok(entry) => {
+                    let Ok(()) = entries.push(entry) else {
+                        return Err(CertError::OutOfMemory);
+                    };
+                }
+                Err(kind) => return Err(CertError::Fault(CertFault { line: above, kind })),
+            }
         }
         rest = after;
     }
-    let is_complete = entries.len() == net.parts().len();
-    located(above, demand(is_complete, CertKind::Missing))?;
-    Ok(entries)
+    if entries.len() == net.parts().len() {
+        Ok(entries)
+    } else {
+        Err(CertError::Fault(CertFault {
+            line: above,
+            kind: CertKind::Missing,
+        }))
+    }
 }
 
 // How many lines there are up to the head, and what is left behind it.
@@ -82,8 +95,8 @@ fn behind_head(text: &[u8]) -> Result<(u32, &[u8]), CertFault>
 fn is_head(line: &[u8]) -> bool
     ensures { result ≡ is_head (words_of line.now) }
 {
-    word_at(line, 0) == b"cert".as_slice()
-        && word_at(line, 1) == b"1".as_slice()
+    is_literal(word_at(line, 0), b"cert")
+        && is_literal(word_at(line, 1), b"1")
         && count_words(line) == 2
 }
 
@@ -93,15 +106,5 @@ fn no_head(line: u32) -> CertFault
     CertFault {
         line,
         kind: CertKind::NoHead,
-    }
-}
-
-// A fault at a line, from 1.
-fn located<T: Drop>(line: u32, outcome: Result<T, CertKind>) -> Result<T, CertFault>
-    ensures { result ≡ located line outcome }
-{
-    match outcome {
-        Ok(value) => Ok(value),
-        Err(kind) => Err(CertFault { line, kind }),
     }
 }

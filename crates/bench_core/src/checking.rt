@@ -30,8 +30,10 @@ pub(crate) fn check<S: Shelf, O: Sink>(
         (O.faults out.old) (O.faults out.new) result }
     ensures unread { WhereUnread result (Appends (O.written out.old) (O.written out.new) []) }
 {
-    let network = network_at(alloc, shelf, net)?;
-    certify(alloc, &network, cert, shelf, out)
+    match network_at(alloc, shelf, net) {
+        Ok(network) => certify(alloc, &network, cert, shelf, out),
+        Err(ending) => Err(ending),
+    }
 }
 
 // Reads the certificate of this network, and prints `accepted` where it is.
@@ -50,8 +52,10 @@ fn certify<S: Shelf, O: Sink>(
         (O.faults out.old) (O.faults out.new) result }
     ensures unread { WhereUnread result (Appends (O.written out.old) (O.written out.new) []) }
 {
-    let certificate = certificate_at(alloc, shelf, cert, network)?;
-    tell(alloc, network, &certificate, out)
+    match certificate_at(alloc, shelf, cert, network) {
+        Ok(certificate) => tell(alloc, network, &certificate, out),
+        Err(ending) => Err(ending),
+    }
 }
 
 // Prints `accepted` where the certificate is.

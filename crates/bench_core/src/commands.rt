@@ -1,6 +1,8 @@
 // The word grammar.
 ghost use Rattle.std.specs.Prelude.{◌≡◌, ℕ, List, map, string_bytes, option_map};
-ghost use Rattle.bench_core.specs.Requests.{Request, request_of, over_two_files, is_file_word, request_seen};
+ghost use Rattle.bench_core.specs.Requests.{Request, request_of, over_two_files, is_file_word, named_over_files, request_seen};
+
+use super::literal::is_literal;
 
 /// A command with its words.
 #[derive(Clone, Copy)]
@@ -17,17 +19,23 @@ pub(crate) fn command_of(words: &[String]) -> Option<Command<'_>>
 {
     match words {
         [] => None,
-        [command, rest @ ..] => {
-            if command.as_str() == "check" {
-                let (net, cert) = two_files(rest)?;
-                Some(Command::Check { net, cert })
-            } else if command.as_str() == "run" {
-                let (net, rec) = two_files(rest)?;
-                Some(Command::Run { net, rec })
-            } else {
-                None
-            }
-        }
+        [command, rest @ ..] => match two_files(rest) {
+            Some((net, other)) => over_files(command.as_bytes(), net, other),
+            None => None,
+        },
+    }
+}
+
+// The command over a network and one file more, by its word.
+fn over_files<'a>(word: &[u8], net: &'a str, other: &'a str) -> Option<Command<'a>>
+    ensures { option_map request_seen result ≡ named_over_files word.now net.now other.now }
+{
+    if is_literal(word, b"check") {
+        Some(Command::Check { net, cert: other })
+    } else if is_literal(word, b"run") {
+        Some(Command::Run { net, rec: other })
+    } else {
+        None
     }
 }
 

@@ -5,7 +5,6 @@ ghost use Rattle.bench_core.specs.RefusalTexts.{cannot_write, out_of_memory};
 
 use super::notice::Notice;
 use fx_io::{Sink, SinkFault};
-use std::alloc::AllocError;
 
 // What is said where the words are outside the grammar.
 const USAGE: &[u8] =
@@ -24,17 +23,6 @@ pub(crate) enum Ending {
     CannotWrite,
     /// Memory ran out.
     OutOfMemory,
-}
-
-impl From<AllocError> for Ending {
-    ghost use Rattle.std.specs.Prelude.{◌≡◌};
-    ghost use Rattle.bench_core.specs.declared.endings.Ending.{Ending};
-
-    ghost from_gives = { λ _ e. e ≡ Ending.OutOfMemory };
-
-    fn from(_error: AllocError) -> Ending {
-        Ending::OutOfMemory
-    }
 }
 
 /// Says on `err` how the command ended, in one write, and gives the status.

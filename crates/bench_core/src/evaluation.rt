@@ -65,17 +65,19 @@ impl<'a> Evaluation<'a> {
         ensures fault { IfErr result (Tells (row_of header.now line.now)) }
         ensures before { IfErr result (KeepsText text.old.items text.new.items) }
     {
-        evaluate(
+        match evaluate(
             alloc,
             header,
             line,
             &mut self.plan,
             &mut self.values,
             &mut self.outputs,
-        )?;
-        match push_values(text, &self.outputs) {
-            Ok(()) => Ok(()),
-            Err(_) => Err(RowFault::OutOfMemory),
+        ) {
+            Ok(()) => match push_values(text, &self.outputs) {
+                Ok(()) => Ok(()),
+                Err(_) => Err(RowFault::OutOfMemory),
+            },
+            Err(fault) => Err(fault),
         }
     }
 }
@@ -97,7 +99,11 @@ fn evaluate(
     ensures row { OnOk result (Evaluates header.now line.now plan.old plan.new outputs.new) }
     ensures fault { IfErr result (Tells (row_of header.now line.now)) }
 {
-    header.row(alloc, line, values)?;
-    plan.step(values, outputs);
-    Ok(())
+    match header.row(alloc, line, values) {
+        Ok(()) => {
+            plan.step(values, outputs);
+            Ok(())
+        }
+        Err(fault) => Err(fault),
+    }
 }

@@ -10,6 +10,7 @@ mod commands;
 mod endings;
 mod evaluation;
 mod fault_refusals;
+mod literal;
 mod notice;
 mod part_naming;
 mod recording_refusals;

@@ -6,6 +6,7 @@ ghost use Rattle.text_words.specs.Lines.{lines_from, lines_of};
 ghost use Rattle.net_eval.specs.After.{IsAfter};
 ghost use Rattle.rec_csv.specs.Recordings.{bad_row};
 ghost use Rattle.bench_core.specs.HowItEnds.{Ends, HasEndingCause, Makes, Prints, WhereUnread};
+ghost use Rattle.bench_core.specs.PrintedRuns.{names_line};
 ghost use Rattle.bench_core.specs.RecordingTexts.{recording_refused};
 ghost use Rattle.bench_core.specs.RunAnswer.{run_answer, run_network, run_bytes};
 ghost use Rattle.bench_core.specs.RunSteps.{IsHeaderOf, StopsAtRow, head_step, headed_answer, rows_answer};
@@ -19,7 +20,7 @@ use super::steps::{network_at, read_file};
 use fx_io::{Shelf, Sink};
 use net_model::Network;
 use rec_csv::{Header, RowFault, is_blank};
-use std::alloc::Global;
+use std::alloc::{AllocError, Global};
 use text_words::{next_line, without_mark};
 
 // The most bytes of a recording.
@@ -44,8 +45,10 @@ pub(crate) fn run<S: Shelf, O: Sink>(
         (O.faults out.old) (O.faults out.new) result }
     ensures unread { WhereUnread result (Appends (O.written out.old) (O.written out.new) []) }
 {
-    let network = network_at(alloc, shelf, net)?;
-    replay_file(alloc, &network, rec, shelf, out)
+    match network_at(alloc, shelf, net) {
+        Ok(network) => replay_file(alloc, &network, rec, shelf, out),
+        Err(ending) => Err(ending),
+    }
 }
 
 // Reads the recording of this network, and prints the outputs of each row.
@@ -64,12 +67,13 @@ fn replay_file<S: Shelf, O: Sink>(
         (O.faults out.old) (O.faults out.new) result }
     ensures unread { WhereUnread result (Appends (O.written out.old) (O.written out.new) []) }
 {
-    let recording = read_file(alloc, shelf, rec, RECORDING_LIMIT)?;
-    replay(alloc, network, &recording, out)
+    match read_file(alloc, shelf, rec, RECORDING_LIMIT) {
+        Ok(recording) => replay(alloc, network, &recording, out),
+        Err(ending) => Err(ending),
+    }
 }
 
 // Prints the outputs of each row of a recording.
-#[tactic(auto, using(crate::proofs::RunLaws::stops_at_head, crate::proofs::RunLaws::goes_below_head, crate::proofs::EndingLaws::cause_inside))]
 fn replay<O: Sink>(
     alloc: Global,
     network: &Network,
@@ -82,8 +86,10 @@ fn replay<O: Sink>(
         HasEndingCause [] before now failed (O.faults out.old) (O.faults out.new) result }
     ensures unread { WhereUnread result ⊥ }
 {
-    let (header, below) = head(alloc, network, recording)?;
-    print_run(alloc, network, &header, below, out)
+    match head(alloc, network, recording) {
+        Ok((header, below)) => print_run(alloc, network, &header, below, out),
+        Err(ending) => Err(ending),
+    }
 }
 
 // The header of a recording, and what is left below it.
@@ -126,19 +132,33 @@ fn print_run<O: Sink>(
         HasEndingCause [] before now failed (O.faults out.old) (O.faults out.new) result }
     ensures unread { WhereUnread result ⊥ }
 {
+    let Ok(mut text) = names_text(alloc, network) else {
+        return Err(Ending::OutOfMemory);
+    };
+    let Ok(mut evaluation) = Evaluation::new(alloc, network) else {
+        return Err(Ending::OutOfMemory);
+    };
+    match flush(&mut text, out) {
+        Ok(()) => print_rows(
+            alloc,
+            network,
+            header,
+            below,
+            &mut evaluation,
+            &mut text,
+            out,
+        ),
+        Err(ending) => Err(ending),
+    }
+}
+
+// The line with the names of the outputs, with room for the lines of a batch.
+fn names_text(alloc: Global, network: &Network) -> Result<Vec<u8>, AllocError>
+    ensures { IfOk result (λ text. text.items ≡ names_line network.now) }
+{
     let mut text = Vec::with_capacity(alloc, batch_room(network.outs().len()))?;
     push_names(&mut text, network)?;
-    let mut evaluation = Evaluation::new(alloc, network)?;
-    flush(&mut text, out)?;
-    print_rows(
-        alloc,
-        network,
-        header,
-        below,
-        &mut evaluation,
-        &mut text,
-        out,
-    )
+    Ok(text)
 }
 
 // The most bytes of a batch's lines: a value is at most a sign and ten digits, and a comma or a line feed follows it.

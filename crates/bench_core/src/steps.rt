@@ -33,8 +33,10 @@ pub(crate) fn network_at<S: Shelf>(
         (S.failed shelf.new) result }
     ensures files { S.files shelf.new ≡ S.files shelf.old }
 {
-    let text = read_file(alloc, shelf, name, TEXT_LIMIT)?;
-    network_of_text(alloc, name, &text)
+    match read_file(alloc, shelf, name, TEXT_LIMIT) {
+        Ok(text) => network_of_text(alloc, name, &text),
+        Err(ending) => Err(ending),
+    }
 }
 
 // The network of a file's bytes.
@@ -65,8 +67,10 @@ pub(crate) fn certificate_at<S: Shelf>(
     ensures files { S.files shelf.new ≡ S.files shelf.old }
     ensures complete { IfOk result (λ cert. length cert ≡ length (parts_of network.now.wires)) }
 {
-    let text = read_file(alloc, shelf, name, TEXT_LIMIT)?;
-    certificate_of_text(alloc, name, network, &text)
+    match read_file(alloc, shelf, name, TEXT_LIMIT) {
+        Ok(text) => certificate_of_text(alloc, name, network, &text),
+        Err(ending) => Err(ending),
+    }
 }
 
 // The certificate of a file's bytes.

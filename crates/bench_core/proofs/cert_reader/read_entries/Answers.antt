@@ -1,8 +1,8 @@
-use Rattle.std.proofs.Common.{◌≡◌, ◌==◌, ◌∙◌, ap, ap₂, length, arith}
+use Rattle.std.proofs.Common.{◌≡◌, ◌≢◌, ◌+◌, ◌<◌, ◌∙◌, sym, ap, length, arith}
 use Rattle.text_words.specs.Lines.{lines_from, words_of}
 use Rattle.bench_core.specs.CertificateText.{walked}
-use Rattle.bench_core.proofs.CertificateSteps.{walked-blank, walked-tested}
-use Rattle.bench_core.proofs.CertificateLaws.{certificate_of-complete, few_entries}
+use Rattle.bench_core.proofs.CertificateSteps.{walked-blank, walked-accepted, walked-refused, walked-complete, walked-missing}
+use Rattle.bench_core.proofs.CertificateLaws.{few_entries}
 use Rattle.bench_core.proofs.cert_reader.read_entries.Goals as goal
 
 -- a line without words
@@ -18,15 +18,51 @@ loop-line-preserved c =
       fewer = omega (arith, c.loop-line.invariant.fewer, c.in-Some.ensures.shorter);
     }
 
-pub returns-clause-reads : goal.returns-clause-reads
-returns-clause-reads c =
+pub returns-in-Err-clause-reads : goal.returns-in-Err-clause-reads
+returns-in-Err-clause-reads c =
     let wires = c.args.net.now.wires in
     let above = c.loop-line.above in
     let entries = c.loop-line.entries.items in
-    let long : c.len-2.result ≡ length entries = omega (arith, c.len-2.ensures, c.loop-line.entries.ok) in
-    let tested = ap₂ (λ n m. n == m) long (ap length c.parts-2.ensures.parts) in
-    c.loop-line.invariant.same ∙ ap (walked wires above entries) c.in_default.ensures.lines ∙ walked-tested wires above entries _ c.demand.result c.located-2.result tested c.demand.ensures c.located-2.ensures c.in_ok-located.was
+    let line = c.in-Some.line.now in
+    let some : 0 < length (words_of line) = omega (arith, c.count_words.ensures, c.if-count_words-gt0.true) in
+    let next : c.len.result ≡ length entries = omega (arith, c.len.ensures, c.loop-line.entries.ok) in
+    c.loop-line.invariant.same ∙ ap (walked wires above entries) c.in-Some.ensures.lines ∙ walked-refused wires above entries line (lines_from c.in-Some.after.now) c.in-Err.kind c.len.result next some c.in-Err.ensures
 
-pub returns-clause-few : goal.returns-clause-few
-returns-clause-few c =
-    few_entries c.args.net.now c.loop-line.entries.items c.parts.ensures.valid (certificate_of-complete c.args.net.now.wires c.args.text.now c.loop-line.entries.items (returns-clause-reads c))
+-- a line of a part
+pub loop-line-preserved-in-Ok-push : goal.loop-line-preserved-in-Ok-push
+loop-line-preserved-in-Ok-push c =
+    let wires = c.args.net.now.wires in
+    let above = c.loop-line.above in
+    let entries = c.loop-line.entries.items in
+    let line = c.in-Some.line.now in
+    let after = lines_from c.in-Some.after.now in
+    let some : 0 < length (words_of line) = omega (arith, c.count_words.ensures, c.if-count_words-gt0.true) in
+    let next : c.len.result ≡ length entries = omega (arith, c.len.ensures, c.loop-line.entries.ok) in
+    record {
+      same = c.loop-line.invariant.same ∙ ap (walked wires above entries) c.in-Some.ensures.lines ∙ walked-accepted wires above entries line after c.in-Ok-part_line.entry c.len.result next some c.in-Ok-part_line.ensures ∙ ap (λ now. walked wires (above + 1) now after) (sym c.in-Ok-push.ensures.items);
+      fewer = omega (arith, c.loop-line.invariant.fewer, c.in-Some.ensures.shorter);
+    }
+
+pub returns-then-len-parts-clause-complete : goal.returns-then-len-parts-clause-complete
+returns-then-len-parts-clause-complete c =
+    let complete : length c.loop-line.entries.items ≡ length c.parts-2.result.now = omega (arith, c.if-len-parts.true, c.len-2.ensures, c.loop-line.entries.ok) in
+    complete ∙ ap length c.parts-2.ensures.parts
+
+pub returns-then-len-parts-clause-few : goal.returns-then-len-parts-clause-few
+returns-then-len-parts-clause-few c =
+    few_entries c.args.net.now c.loop-line.entries.items c.parts.ensures.valid (returns-then-len-parts-clause-complete c)
+
+pub returns-then-len-parts-clause-reads : goal.returns-then-len-parts-clause-reads
+returns-then-len-parts-clause-reads c =
+    let wires = c.args.net.now.wires in
+    let above = c.loop-line.above in
+    let entries = c.loop-line.entries.items in
+    c.loop-line.invariant.same ∙ ap (walked wires above entries) c.in_default-next_line.ensures.lines ∙ walked-complete wires above entries (returns-then-len-parts-clause-complete c)
+
+pub returns-else-len-parts-clause-reads : goal.returns-else-len-parts-clause-reads
+returns-else-len-parts-clause-reads c =
+    let wires = c.args.net.now.wires in
+    let above = c.loop-line.above in
+    let entries = c.loop-line.entries.items in
+    let missing : length entries ≢ length c.parts-2.result.now = omega (arith, c.if-len-parts.false, c.len-2.ensures, c.loop-line.entries.ok) in
+    c.loop-line.invariant.same ∙ ap (walked wires above entries) c.in_default-next_line.ensures.lines ∙ walked-missing wires above entries _ (ap length c.parts-2.ensures.parts) missing

@@ -1,6 +1,8 @@
-use Rattle.std.proofs.Common.{rules, ◌≡◌, sym, ◌∙◌, true, false, arith}
+use Rattle.std.proofs.Common.{◌≡◌, [], sym, ◌∙◌, true, false, arith}
 use Rattle.text_words.specs.Lines.{lines_from}
 use Rattle.rec_csv.specs.Fields.{is_blank}
+use Rattle.bench_core.specs.RunSteps.{rows_answer}
+use Rattle.bench_core.proofs.EndingLaws.{handed_on, printing_causes, cause_behind_printing, cause_of_printing}
 use Rattle.bench_core.proofs.RunLaws.{under_blank, under_row, under_flushed, stops_flush, stops_row, ends_run}
 use Rattle.bench_core.proofs.running.print_rows.Goals as goal
 
@@ -31,7 +33,7 @@ returns-in_err-flush-in-Ok-clause-told g c failed =
     let u = rw c.in-Some.ensures.lines at c.loop-line.invariant.under in
     let v = under_row net header all after line c.loop-line.number c.loop-line.evaluation c.push_row.new.self c.loop-line.text.items c.push_row.new.text.items (g.O.Sink.written c.args.out.now) (g.O.Sink.written c.loop-line.out) u full c.push_row.ensures.net c.in-Ok.ensures.row in
     let s = stops_flush net header all after _ c.push_row.new.self c.push_row.new.text.items (g.O.Sink.written c.args.out.now) (g.O.Sink.written c.loop-line.out) (g.O.Sink.written c.flush.new.out) failed _ _ c.in_err-flush-in-Ok.field-0.0 v c.in_err-flush-in-Ok.ensures.text in
-    search (rules, s)
+    handed_on (rows_answer net header [] all) failed _ _ c.in_err-flush-in-Ok.field-0.0 c.from_residual.result s c.from_residual.ensures.1
 
 pub returns-in-Err-clause-told : goal.returns-in-Err-clause-told
 returns-in-Err-clause-told g c failed =
@@ -56,3 +58,11 @@ loop-line-preserved g c =
       fewer = omega (arith, c.loop-line.invariant.fewer, c.in-Some.ensures.shorter);
       counted = c.loop-line.invariant.counted;
     }
+
+pub returns-in_err-flush-in-Ok-clause-cause : goal.returns-in_err-flush-in-Ok-clause-cause
+returns-in_err-flush-in-Ok-clause-cause g c before now failed =
+    printing_causes c.push_row.new.text.items _ _ _ _ _ [] before now failed c.in_err-flush-in-Ok.field-0.0 c.from_residual.result c.loop-line.invariant.counted c.in_err-flush-in-Ok.ensures.text c.from_residual.ensures.1
+
+pub returns-clause-cause : goal.returns-clause-cause
+returns-clause-cause g c before now failed =
+    cause_behind_printing [] before now failed _ _ _ c.flush-2.result c.loop-line.invariant.counted (cause_of_printing c.loop-line.text.items _ _ _ _ [] before now failed c.flush-2.result c.flush-2.ensures.text)
