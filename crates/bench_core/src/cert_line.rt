@@ -4,11 +4,10 @@ ghost use Rattle.text_words.specs.Lines.{words_of};
 ghost use Rattle.bench_core.specs.CertificateText.{names_next, number_within, part_line};
 
 use crate::cert_kind::CertKind;
-use crate::literal::is_literal;
 use crate::part_naming::name_at;
 use cert_rules::Bounds;
 use net_model::Network;
-use text_words::{count_words, demand, number, word_at};
+use text_words::{count_words, demand, is_literal, number, word_at};
 
 /// What a bound or an error may be at most; a bound is at least the negative of it.
 const FARTHEST: i64 = 1 << 62;

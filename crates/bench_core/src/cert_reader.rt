@@ -9,11 +9,10 @@ ghost use Rattle.bench_core.specs.CertificateReading.{ReadsCertificate};
 
 use crate::cert_kind::{CertError, CertFault, CertKind};
 use crate::cert_line::part_line;
-use crate::literal::is_literal;
 use cert_rules::{Bounds, Certificate};
 use net_model::Network;
 use std::alloc::Global;
-use text_words::{count_words, next_line, without_mark, word_at};
+use text_words::{count_words, is_literal, next_line, without_mark, word_at};
 
 /// The certificate that the text says for the network: one entry for each part, in the order of the parts. Each line
 /// is looked at until the first that has a fault. Where memory runs out, nothing is said of the text.

@@ -2,7 +2,7 @@
 ghost use Rattle.std.specs.Prelude.{◌≡◌, ℕ, List, map, string_bytes, option_map};
 ghost use Rattle.bench_core.specs.Requests.{Request, request_of, over_two_files, is_file_word, named_over_files, request_seen};
 
-use super::literal::is_literal;
+use text_words::is_literal;
 
 /// A command with its words.
 #[derive(Clone, Copy)]

@@ -10,7 +10,6 @@ mod commands;
 mod endings;
 mod evaluation;
 mod fault_refusals;
-mod literal;
 mod notice;
 mod part_naming;
 mod recording_refusals;

@@ -2,7 +2,7 @@
 ghost use Rattle.std.specs.Prelude.{◌≡◌};
 ghost use Rattle.net_text.specs.Forms.{keyword_of};
 
-use crate::literal::is_literal;
+use text_words::is_literal;
 
 /// The form of a line that defines its second word.
 #[derive(Clone, Copy)]

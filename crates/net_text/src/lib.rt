@@ -5,7 +5,6 @@
 mod definitions;
 mod keyword;
 mod line_forms;
-mod literal;
 mod printing;
 mod reader;
 mod routine_word;

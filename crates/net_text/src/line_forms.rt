@@ -9,7 +9,6 @@ ghost use Rattle.net_text.specs.Forms.{AreBelow, agreed, are_known, argument_wor
 
 use crate::definitions::is_defined;
 use crate::keyword::{Keyword, keyword_of};
-use crate::literal::is_literal;
 use crate::routine_word::{
     Arguments, Routine, arity_of, block_of, is_shifting, routine_at, types_of,
 };
@@ -19,7 +18,7 @@ use net_model::{
     Block, GREATEST_SHIFT, Item, Kind, MOST_WIRES, NetKind, Wire, WireNo, agrees, is_range,
     kind_holds,
 };
-use text_words::{count_words, demand, is_name, number, word_at};
+use text_words::{count_words, demand, is_literal, is_name, number, word_at};
 
 // The place of a routine's first argument, behind `wire NAME TYPE = ROUTINE`.
 const FIRST_ARGUMENT: usize = 5;

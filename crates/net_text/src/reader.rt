@@ -8,10 +8,9 @@ ghost use Rattle.net_model.specs.Drafts.{data_of};
 ghost use Rattle.net_text.specs.Text.{Gives, Reads, after_definition, after_line, after_out, ended, is_head, located, network_of, no_head, walked};
 
 use crate::line_forms::{Content, defining_line, out_line};
-use crate::literal::is_literal;
 use net_model::{Draft, Name, NameFault, NetKind, NetRefusal, Network, Wire, WireNo, has_ends};
 use std::alloc::Global;
-use text_words::{count_words, next_line, without_mark, word_at};
+use text_words::{count_words, is_literal, next_line, without_mark, word_at};
 
 /// A fault of a network's text: the number of its line, from 1, and what is wrong there.
 #[derive(Clone, Copy, Debug, PartialEq, Eq)]

@@ -2,10 +2,9 @@
 ghost use Rattle.std.specs.Prelude.{◌≡◌, ◌≤◌, length};
 ghost use Rattle.net_text.specs.TypeWords.{axis_name, is_position, kind_of, number_kind_of, one_digit, point_of_word, two_digits, ty_len, ty_of};
 
-use crate::literal::is_literal;
 use fx_core::Ty;
 use net_model::Kind;
-use text_words::is_name;
+use text_words::{is_literal, is_name};
 
 // The greatest binary point.
 const GREATEST_POINT: u8 = 15;

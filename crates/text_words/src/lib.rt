@@ -4,6 +4,7 @@
 
 mod line_cutter;
 mod line_words;
+mod literal;
 mod name_rule;
 mod number_reader;
 mod steps;
@@ -11,6 +12,7 @@ mod word_cutter;
 
 pub use line_cutter::{next_line, without_mark};
 pub use line_words::{count_words, word_at};
+pub use literal::is_literal;
 pub use name_rule::is_name;
 pub use number_reader::number;
 pub use steps::demand;
