@@ -11,9 +11,9 @@ use Rattle.fx_core.specs.contracts.word_type.Ty.{the_type}
 use Rattle.fx_core.specs.declared.word_type.Ty.{Ty}
 use Rattle.fx_core.specs.declared.word_type.Ty.TheVariants.{U8, S8, U16, S16, U32, S32}
 use Rattle.fx_routines.specs.declared.operation.Variant.{Variant}
-use Rattle.fx_routines.specs.declared.table.Class.{Class}
-use Rattle.fx_routines.specs.declared.table.Part.{Part}
-use Rattle.fx_routines.specs.declared.table.Part.TheVariants as part
+use Rattle.fx_routines.specs.declared.shape.Class.{Class}
+use Rattle.fx_routines.specs.declared.shape.Part.{Part}
+use Rattle.fx_routines.specs.declared.shape.Part.TheVariants as part
 use Rattle.fx_routines.specs.Variants.{variant, belongs}
 use Rattle.fx_routines.specs.Names.{type_word, words, has_class, is_first, is_second, is_output, repeats, fits}
 use Rattle.fx_routines.specs.Reading.{after, with_type, first_type, if_of_class, read_first, read_second, read_output, read_word, read_part, if_at_end, read_parts, no_choice}

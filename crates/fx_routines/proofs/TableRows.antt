@@ -2,18 +2,18 @@
 use Rattle.std.proofs.Common.{◌≡◌, ℕ, zero, suc, ◌+◌, ◌<◌, ◌≤◌, Bool, true, false, cond, List, [], ◌∷◌, length, map, get_or, drop, find, slice_index_or, Option, Some, None, refl, sym, ap, subst, ◌∙◌, Bor, arith, add-one, drop-cons}
 use Rattle.std.proofs.lemmas.List.{drop_all}
 use Rattle.fx_routines.specs.declared.operation.Variant.{Variant}
-use Rattle.fx_routines.specs.declared.table.Part.{Part}
+use Rattle.fx_routines.specs.declared.shape.Shape.{Shape}
 use Rattle.fx_routines.specs.declared.table.Routine.{Routine}
 use Rattle.fx_routines.specs.Rows.{Row, rows, row_at, IsAt}
 use Rattle.fx_routines.specs.Reading.{named_among, row_named, or_else}
 
 -- a row as the code has it
 abbrev pub Seen : Type 0
-Seen = Routine × Bor (List ℕ) × Bor (List Part)
+Seen = Routine × Bor (List ℕ) × Shape
 
 -- the row of the definitions that it is
 abbrev pub as_row : Seen → Row
-as_row r = (r.0, record { now = r.1.now }, record { now = r.2.now })
+as_row r = (r.0, record { now = r.1.now }, r.2)
 
 as_row_at : (xs : List Seen) (ys : List Row) (i : ℕ) (d : Seen) (e : Row)
     → map as_row xs ≡ ys → i < length ys → as_row (slice_index_or xs i d) ≡ slice_index_or ys i e

@@ -4,8 +4,8 @@ use Rattle.std.specs.List.{list_all, list_any, Any}
 use Rattle.fx_core.specs.declared.word_type.Ty.{Ty}
 use Rattle.fx_core.specs.declared.word_type.Ty.TheVariants.{U8, S8, U16, S16, U32, S32}
 use Rattle.fx_routines.specs.declared.operation.Variant.{Variant}
-use Rattle.fx_routines.specs.declared.table.Part.{Part}
-use Rattle.fx_routines.specs.declared.table.Part.TheVariants as part
+use Rattle.fx_routines.specs.declared.shape.Part.{Part}
+use Rattle.fx_routines.specs.declared.shape.Part.TheVariants as part
 use Rattle.fx_routines.specs.declared.table.Routine.{Routine}
 use Rattle.fx_routines.specs.Rows.{Row, routine_of, front_of, parts_of, rows, same_routine}
 use Rattle.fx_routines.specs.Variants.{variant, same_type, belongs}

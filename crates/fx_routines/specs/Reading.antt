@@ -3,9 +3,9 @@ use Rattle.std.specs.Prelude.{ℕ, List, [], ◌∷◌, take, drop, length, byte
 use Rattle.fx_core.specs.declared.word_type.Ty.{Ty}
 use Rattle.fx_core.specs.declared.word_type.Ty.TheVariants.{U8, S8, U16, S16, U32, S32}
 use Rattle.fx_routines.specs.declared.operation.Variant.{Variant}
-use Rattle.fx_routines.specs.declared.table.Class.{Class}
-use Rattle.fx_routines.specs.declared.table.Part.{Part}
-use Rattle.fx_routines.specs.declared.table.Part.TheVariants as part
+use Rattle.fx_routines.specs.declared.shape.Class.{Class}
+use Rattle.fx_routines.specs.declared.shape.Part.{Part}
+use Rattle.fx_routines.specs.declared.shape.Part.TheVariants as part
 use Rattle.fx_routines.specs.declared.table.Routine.{Routine}
 use Rattle.fx_routines.specs.Rows.{Row, routine_of, front_of, parts_of, rows}
 use Rattle.fx_routines.specs.Variants.{variant, belongs}

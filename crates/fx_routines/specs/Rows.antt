@@ -5,14 +5,17 @@ use Rattle.fx_routines.specs.contracts.operation.ArithOp as arith
 use Rattle.fx_routines.specs.contracts.operation.ScaledOp as scaled
 use Rattle.fx_routines.specs.declared.operation.ArithOp.{ArithOp}
 use Rattle.fx_routines.specs.declared.operation.ScaledOp.{ScaledOp}
-use Rattle.fx_routines.specs.declared.table.Part.{Part}
+use Rattle.fx_routines.specs.declared.shape.Part.{Part}
+use Rattle.fx_routines.specs.declared.shape.Shape.{Shape}
+use Rattle.fx_routines.specs.declared.shape.Shape.TheVariants.{BoolToBool}
 use Rattle.fx_routines.specs.declared.table.Routine.{Routine}
 use Rattle.fx_routines.specs.declared.table.Routine.TheVariants.{Arith, Scaled, NotBuilt}
 use Rattle.fx_routines.specs.declared.table.TheConstants.{TABLE}
+use Rattle.fx_routines.specs.Shapes.{parts_in}
 
--- a row: a routine, the front of its names, and the parts behind that
+-- a row: a routine, the front of its names, and their shape
 abbrev pub Row : Type 0
-Row = Routine × record { now : List ℕ } × record { now : List Part }
+Row = Routine × record { now : List ℕ } × Shape
 
 -- the routine of a row
 abbrev pub routine_of : Row → Routine
@@ -22,9 +25,13 @@ routine_of row = row.0
 abbrev pub front_of : Row → List ℕ
 front_of row = row.1.now
 
+-- the shape of a row's names
+abbrev pub shape_of : Row → Shape
+shape_of row = row.2
+
 -- the parts of a row's names
 abbrev pub parts_of : Row → List Part
-parts_of row = row.2.now
+parts_of row = parts_in (shape_of row)
 
 -- all rows
 unfoldable pub rows : List Row
@@ -32,7 +39,7 @@ rows = TABLE
 
 -- the row at a place of the table
 abbrev pub row_at : ℕ → Row
-row_at i = slice_index_or rows i (NotBuilt, record { now = [] }, record { now = [] })
+row_at i = slice_index_or rows i (NotBuilt, record { now = [] }, BoolToBool)
 
 -- x stands at the place of the list
 pub record IsAt {A : Type 0} (xs : List A) (place : ℕ) (x : A) : Type 0 where

@@ -6,8 +6,8 @@ use Rattle.fx_core.specs.contracts.word_type.Ty.{the_type}
 use Rattle.fx_core.specs.declared.word_type.Ty.{Ty}
 use Rattle.fx_core.specs.declared.word_type.Ty.TheVariants.{S8, S16, S32}
 use Rattle.fx_routines.specs.declared.operation.Variant.{Variant}
-use Rattle.fx_routines.specs.declared.table.Class.{Class}
-use Rattle.fx_routines.specs.declared.table.Class.TheVariants.{Any, Narrow, Unsigned, Signed, SameWidth}
+use Rattle.fx_routines.specs.declared.shape.Class.{Class}
+use Rattle.fx_routines.specs.declared.shape.Class.TheVariants.{Any, Narrow, Unsigned, Signed, SameWidth}
 
 -- the types of a routine, in the order of its name
 abbrev pub variant : Ty → Ty → Ty → Variant

@@ -7,7 +7,8 @@ ghost use Rattle.fx_routines.specs.Rows.{row_at, same_routine};
 ghost use Rattle.fx_routines.specs.Variants.{belongs, is_signed, same_type};
 
 use crate::operation::Variant;
-use crate::table::{Class, Part, ROWS, Routine, row_at};
+use crate::shape::{Class, Part, parts_in};
+use crate::table::{ROWS, Routine, row_at};
 use fx_core::Ty;
 
 /// Whether there is a routine of these types.
@@ -34,8 +35,8 @@ fn is_row_of(place: usize, routine: Routine, v: Variant) -> bool
     requires { place < 70 }
     ensures { result ≡ is_row_of routine v (row_at place) }
 {
-    let (each, _, parts) = row_at(place);
-    same_routine(each, routine) && fits(parts, v)
+    let (each, _, shape) = row_at(place);
+    same_routine(each, routine) && fits(parts_in(shape), v)
 }
 
 fn same_routine(a: Routine, b: Routine) -> bool

@@ -6,6 +6,7 @@ mod fitting;
 mod laws;
 mod operation;
 mod reading;
+mod shape;
 mod table;
 mod writing;
 
@@ -13,5 +14,6 @@ pub use crate::fitting::takes;
 pub use crate::laws::law_of_names;
 pub use crate::operation::{ArithOp, ScaledOp, Variant};
 pub use crate::reading::routine_named;
-pub use crate::table::{Class, Part, ROWS, Routine, Row, TABLE};
+pub use crate::shape::{Class, Part};
+pub use crate::table::Routine;
 pub use crate::writing::{push_name, type_word};

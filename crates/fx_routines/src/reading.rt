@@ -9,7 +9,8 @@ ghost use Rattle.fx_routines.specs.Reading.{after, first_type, if_at_end, if_of_
 
 use crate::fitting::belongs;
 use crate::operation::Variant;
-use crate::table::{Class, Part, ROWS, Routine, row_at};
+use crate::shape::{Class, Part, parts_in};
+use crate::table::{ROWS, Routine, row_at};
 use crate::writing::{part_word, type_word};
 use fx_core::Ty;
 
@@ -42,9 +43,9 @@ fn row_named(place: usize, word: &[u8]) -> Option<(Routine, Variant)>
     requires { place < 70 }
     ensures { result ≡ row_named (row_at place) word.now }
 {
-    let (routine, front, parts) = row_at(place);
+    let (routine, front, shape) = row_at(place);
     let rest = after(front, word)?;
-    let v = read_parts(parts, rest)?;
+    let v = read_parts(parts_in(shape), rest)?;
     Some((routine, v))
 }
 

@@ -6,7 +6,8 @@ ghost use Rattle.fx_routines.specs.Rows.{is_built, row_at};
 
 use crate::fitting::place_of;
 use crate::operation::Variant;
-use crate::table::{Part, Routine, row_at};
+use crate::shape::{Part, parts_in};
+use crate::table::{Routine, row_at};
 use fx_core::Ty;
 use std::alloc::AllocError;
 
@@ -27,9 +28,9 @@ fn push_row_name(name: &mut Vec<u8>, place: usize, v: Variant) -> Result<(), All
     requires { place < 70 }
     ensures { OnOk result (name.new.items ≡ name.old.items ++ row_name (row_at place) v) }
 {
-    let (_, front, parts) = row_at(place);
+    let (_, front, shape) = row_at(place);
     name.extend_from_slice(front)?;
-    push_words(name, parts, v)
+    push_words(name, parts_in(shape), v)
 }
 
 fn push_words(name: &mut Vec<u8>, parts: &[Part], v: Variant) -> Result<(), AllocError>

@@ -6,8 +6,8 @@ use Rattle.text_words.specs.Printed.{is_printed, is_word}
 use Rattle.text_words.proofs.PrintedWords.{printed-append, printed-word, is_word-append}
 use Rattle.fx_core.specs.declared.word_type.Ty.{Ty}
 use Rattle.fx_routines.specs.declared.operation.Variant.{Variant}
-use Rattle.fx_routines.specs.declared.table.Part.{Part}
-use Rattle.fx_routines.specs.declared.table.Part.TheVariants as part
+use Rattle.fx_routines.specs.declared.shape.Part.{Part}
+use Rattle.fx_routines.specs.declared.shape.Part.TheVariants as part
 use Rattle.fx_routines.specs.declared.table.Routine.{Routine as Named}
 use Rattle.fx_routines.specs.declared.table.Routine.TheVariants.{Arith as NamedArith, Scaled as NamedScaled}
 use Rattle.fx_routines.specs.Rows.{Row, rows, front_of, parts_of}

@@ -12,6 +12,6 @@ pub returns-clause-front : goal.returns-clause-front
 unfolding rows
 returns-clause-front c = ap (λ r. r.1.now) (seen_at _ _ _ c.row_in.ensures refl c.requires)
 
-pub returns-clause-parts : goal.returns-clause-parts
+pub returns-clause-shape : goal.returns-clause-shape
 unfolding rows
-returns-clause-parts c = ap (λ r. r.2.now) (seen_at _ _ _ c.row_in.ensures refl c.requires)
+returns-clause-shape c = ap (λ r. r.2) (seen_at _ _ _ c.row_in.ensures refl c.requires)
