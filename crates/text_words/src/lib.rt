@@ -1,5 +1,5 @@
 // Lines, words, numbers and names of the two small texts that are read line by line: a network's and a certificate's;
-// and a test, or else a fault.
+// whether a word is a literal; and a test, or else a fault.
 #![tactic(auto)]
 
 mod line_cutter;
