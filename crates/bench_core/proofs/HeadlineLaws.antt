@@ -1,6 +1,6 @@
 -- Where `check` answers 0, the certificate holds.
 use Rattle.std.proofs.Common.{◌<◌, ◌≡◌, ℕ, Bool, true, false, List, length, Option, Some, None, Ok, refl, sym, ◌∙◌, subst, append-nil, arith, if◌then◌else◌}
-use Rattle.std.specs.Prelude.{⊤, nat_lt, ◌&&◌}
+use Rattle.std.specs.Prelude.{⊤, codes, nat_lt, ◌&&◌}
 use Rattle.std.specs.Io.KnownBytes.{Appends}
 use Rattle.fx_io.specs.Outside.{bytes_of}
 use Rattle.net_model.specs.declared.wires.Wire.{Wire}
@@ -17,7 +17,8 @@ use Rattle.bench_core.proofs.CertificateLaws.{certificate_of-complete}
 use Rattle.bench_core.proofs.PassedSteps.{RefusesAbove, above_from, bytes_above, bytes_given, chain_above, chain_given, faultless_above, given_faultless, network_above, network_given, ok_is_not_error, passed}
 use Rattle.bench_core.specs.Outcomes.{Outcome}
 use Rattle.bench_core.specs.RefusalTexts.{not_accepted}
-use Rattle.bench_core.specs.Requests.{check, is_file_word, check_words, request_of}
+use Rattle.bench_core.specs.Requests.{is_file_word, check_words, request_of}
+use Rattle.bench_core.proofs.RequestLaws.{over_files}
 use Rattle.bench_core.specs.declared.cert_kind.CertFault.{CertFault}
 use Rattle.bench_core.specs.RefusalTexts.{bad_certificate}
 use Rattle.bench_core.specs.CheckAnswer.{file_read, network_read, certificate_in, certificate_read, if_none_rejected, acceptance, accepted_line, tell_accepted, check_entries, check_certificate, check_answer, text_limit}
@@ -94,7 +95,7 @@ check_done files net cert h =
     }
 
 -- the words `check NET CERT` ask for `check`, or are outside the grammar
-asked_done : (files : List (List ℕ × List ℕ)) (net cert : List ℕ) (b : Bool) → (answer_of_request files (if b then Some (check net cert) else None)).status ≡ 0 → IsDone files net cert (answer_of_request files (if b then Some (check net cert) else None))
+asked_done : (files : List (List ℕ × List ℕ)) (net cert : List ℕ) (b : Bool) → (answer_of_request files (over_files (codes "check") net cert b)).status ≡ 0 → IsDone files net cert (answer_of_request files (over_files (codes "check") net cert b))
 asked_done files net cert true h = check_done files net cert h
 asked_done files net cert false h = absurd (omega arith)
 

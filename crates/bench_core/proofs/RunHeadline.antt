@@ -1,6 +1,6 @@
 -- Where `run` answers 0, it printed the network's meaning over the recording.
 use Rattle.std.proofs.Common.{◌≡◌, ℕ, Bool, true, false, List, [], ◌++◌, length, Option, Some, None, Result, Ok, Err, refl, sym, ◌∙◌, ap, subst, append-nil, arith, if◌then◌else◌, ℤ}
-use Rattle.std.specs.Prelude.{nat_lt, ◌&&◌}
+use Rattle.std.specs.Prelude.{codes, nat_lt, ◌&&◌}
 use Rattle.std.specs.Io.KnownBytes.{Appends}
 use Rattle.fx_io.specs.Outside.{bytes_of}
 use Rattle.net_model.specs.declared.wires.Wire.{Wire}
@@ -13,7 +13,8 @@ use Rattle.net_meaning.proofs.OneRun.{runs_agree}
 use Rattle.rec_csv.specs.Recordings.{Headed, Recording, RecordingFault, no_header, bad_header, bad_row, head_of, read_below, recording_of}
 use Rattle.text_words.specs.Lines.{lines_of}
 use Rattle.bench_core.specs.Outcomes.{Outcome}
-use Rattle.bench_core.specs.Requests.{run, is_file_word, run_words, request_of}
+use Rattle.bench_core.specs.Requests.{is_file_word, run_words, request_of}
+use Rattle.bench_core.proofs.RequestLaws.{over_files}
 use Rattle.bench_core.specs.CheckAnswer.{file_read, network_read}
 use Rattle.bench_core.specs.PrintedRuns.{run_text}
 use Rattle.bench_core.specs.RecordingTexts.{recording_refused}
@@ -94,7 +95,7 @@ run_done files net rec h =
     }
 
 -- the words `run NET REC` ask for `run`, or are outside the grammar
-asked_run : (files : List (List ℕ × List ℕ)) (net rec : List ℕ) (b : Bool) → (answer_of_request files (if b then Some (run net rec) else None)).status ≡ 0 → IsRunDone files net rec (answer_of_request files (if b then Some (run net rec) else None))
+asked_run : (files : List (List ℕ × List ℕ)) (net rec : List ℕ) (b : Bool) → (answer_of_request files (over_files (codes "run") net rec b)).status ≡ 0 → IsRunDone files net rec (answer_of_request files (over_files (codes "run") net rec b))
 asked_run files net rec true h = run_done files net rec h
 asked_run files net rec false h = absurd (omega arith)
 

@@ -1,5 +1,6 @@
 -- The words that ask for a command.
 use Rattle.std.specs.Prelude.{ℕ, Bool, false, not, ◌&&◌, List, [], ◌∷◌, Option, Some, None, ◌==◌, codes, bytes_eq, if◌then◌else◌, ⊤}
+use Rattle.std.specs.Option.{option_and_then}
 use Rattle.std.specs.Io.KnownBytes.{Appends}
 use Rattle.bench_core.specs.declared.commands.Command.{Command}
 use Rattle.bench_core.specs.declared.commands.Command.TheVariants.{Check, Run}
@@ -14,25 +15,23 @@ abbrev pub is_file_word : List ℕ → Bool
 is_file_word [] = false
 is_file_word (b ∷ bytes) = not (b == 45)
 
--- a command over a network and one file more, from the words behind the first
-abbrev pub over_two_files : (List ℕ → List ℕ → Request) → List (List ℕ) → Option Request
-over_two_files command [] = None
-over_two_files command (net ∷ []) = None
-over_two_files command (net ∷ other ∷ []) = if is_file_word net && is_file_word other then Some (command net other) else None
-over_two_files command (net ∷ other ∷ word ∷ words) = None
+-- the words that name the two files of a command; none where there aren't exactly two, or one of them may name no file
+abbrev pub two_files : List (List ℕ) → Option (List ℕ × List ℕ)
+two_files [] = None
+two_files (net ∷ []) = None
+two_files (net ∷ other ∷ []) = if is_file_word net && is_file_word other then Some (net, other) else None
+two_files (net ∷ other ∷ word ∷ words) = None
 
--- the same from its word and its two files
-abbrev pub named_over_files : List ℕ → List ℕ → List ℕ → Option Request
-named_over_files command net other =
+-- the command over a network and one file more, by its word
+abbrev pub command_over : List ℕ → List ℕ → List ℕ → Option Request
+command_over command net other =
     if bytes_eq command (codes "check") then Some (check net other)
     else (if bytes_eq command (codes "run") then Some (run net other) else None)
 
 -- the command that the words ask for, `check NET CERT` or `run NET REC`; none where they are outside the grammar
 abbrev pub request_of : List (List ℕ) → Option Request
 request_of [] = None
-request_of (command ∷ words) =
-    if bytes_eq command (codes "check") then over_two_files check words
-    else (if bytes_eq command (codes "run") then over_two_files run words else None)
+request_of (command ∷ words) = option_and_then (λ files. command_over command files.0 files.1) (two_files words)
 
 -- the files of a command, in the order in which they are read
 abbrev pub files_of : Request → List (List ℕ)

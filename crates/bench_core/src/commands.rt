@@ -1,6 +1,6 @@
 // The word grammar.
-ghost use Rattle.std.specs.Prelude.{◌≡◌, ℕ, List, map, string_bytes, option_map};
-ghost use Rattle.bench_core.specs.Requests.{Request, request_of, over_two_files, is_file_word, named_over_files, request_seen};
+ghost use Rattle.std.specs.Prelude.{◌≡◌, map, string_bytes, option_map};
+ghost use Rattle.bench_core.specs.Requests.{command_over, is_file_word, request_of, request_seen, two_files};
 
 use text_words::is_literal;
 
@@ -20,15 +20,15 @@ pub(crate) fn command_of(words: &[String]) -> Option<Command<'_>>
     match words {
         [] => None,
         [command, rest @ ..] => match two_files(rest) {
-            Some((net, other)) => over_files(command.as_bytes(), net, other),
+            Some((net, other)) => command_over(command.as_bytes(), net, other),
             None => None,
         },
     }
 }
 
 // The command over a network and one file more, by its word.
-fn over_files<'a>(word: &[u8], net: &'a str, other: &'a str) -> Option<Command<'a>>
-    ensures { option_map request_seen result ≡ named_over_files word.now net.now other.now }
+fn command_over<'a>(word: &[u8], net: &'a str, other: &'a str) -> Option<Command<'a>>
+    ensures { option_map request_seen result ≡ command_over word.now net.now other.now }
 {
     if is_literal(word, b"check") {
         Some(Command::Check { net, cert: other })
@@ -39,10 +39,9 @@ fn over_files<'a>(word: &[u8], net: &'a str, other: &'a str) -> Option<Command<'
     }
 }
 
-// The words of a command over a network and one file more, from those behind the first.
+// The two files of a command, from the words behind the first.
 fn two_files(words: &[String]) -> Option<(&str, &str)>
-    ensures { (command : List ℕ → List ℕ → Request) →
-        option_map (λ f. command f.0.now f.1.now) result ≡ over_two_files command (map string_bytes words.now) }
+    ensures { option_map (λ f. (f.0.now, f.1.now)) result ≡ two_files (map string_bytes words.now) }
 {
     match words {
         [net, other] => {
