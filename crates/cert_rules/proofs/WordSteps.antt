@@ -1,9 +1,11 @@
 -- Sums, differences and products of two numbers in 128 bits, as words give them: none goes past an end.
-use Rattle.std.proofs.Common.{◌≡◌, ℕ, ◌*◌, ◌<◌, ◌≤◌, ◌^◌, lit<, ℤ, pos, negsuc, ◌+ℤ◌, ◌-ℤ◌, ◌*ℤ◌, ◌≤ℤ◌, ◌<ℤ◌, ◌∙◌, ap, ap₂, arith, mul-le-mul, mul-le-mul_left, FitsSigned, to_z, of_z}
+use Rattle.std.proofs.Common.{◌≡◌, ℕ, ◌*◌, ◌<◌, ◌≤◌, ◌^◌, lit<, lit≤, ℤ, pos, negsuc, ◌+ℤ◌, ◌-ℤ◌, ◌*ℤ◌, ◌≤ℤ◌, ◌<ℤ◌, ◌∙◌, ap, ap₂, arith, mul-le-mul_left, FitsSigned, to_z, of_z}
 use Rattle.std.specs.Int.{w64, w128}
 use Rattle.std.specs.Prelude.{unsigned_abs}
-use Rattle.std.proofs.lemmas.Int.{ints, to_z-of_z, fits_signed_mul, unsigned_abs-mul}
+use Rattle.std.proofs.lemmas.Int.{ints, to_z-of_z, unsigned_abs-mul}
 use borrow.Author.Differences.{fits_in}
+use Rattle.fx_core.proofs.WordSteps.{IsStep}
+use Rattle.fx_core.proofs.WordSteps as steps
 use Rattle.cert_rules.specs.declared.bounds.Bounds.{Bounds}
 use Rattle.cert_rules.specs.Entries.{IsSmall}
 use Rattle.cert_rules.proofs.ArithCornerValues.{word}
@@ -12,46 +14,22 @@ use Rattle.cert_rules.proofs.ArithCornerValues.{word}
 pub count_word : (z n : ℤ) → FitsSigned w64 z → FitsSigned w128 n → n ≡ to_z w64 (of_z w64 z) → word n ≡ z
 count_word z n fits fits' e = to_z-of_z w128 n fits' ∙ e ∙ to_z-of_z w64 z fits
 
-pub plain_word : (n : ℤ) → unsigned_abs n < 2 ^ 104 → word n ≡ n
-plain_word n h = to_z-of_z w128 n (fits_in w128 n (omega (arith, ints, h)))
-
 pub plain_count : (n : ℤ) → unsigned_abs n < 2 ^ 32 → word n ≡ n
-plain_count n h = plain_word n (omega (arith, h))
+plain_count n h = steps.plain w128 n (omega (arith, h))
 
--- what is known of a step's word
-pub record IsStep (z exact : ℤ) : Type 0 where
-  pub fits : FitsSigned w128 z
-  pub value : word z ≡ exact
+pub sum_step : (s t : ℤ) → unsigned_abs s < 2 ^ 71 → unsigned_abs t < 2 ^ 71 → IsStep w128 (word s +ℤ word t) (s +ℤ t) (2 ^ 72)
+sum_step s t h k = steps.sum_step w128 s t (2 ^ 71) (2 ^ 71) h k (lit≤ tt)
 
-step : (z exact : ℤ) → z ≡ exact → FitsSigned w128 exact → IsStep z exact
-step z exact e fits = record { fits = rw e fits; value = ap word e ∙ to_z-of_z w128 exact fits }
-
-pub sum_step : (s t : ℤ) → unsigned_abs s < 2 ^ 71 → unsigned_abs t < 2 ^ 71 → IsStep (word s +ℤ word t) (s +ℤ t)
-sum_step s t h k = step _ _ (ap₂ (λ u v. u +ℤ v) (plain_word s (omega (arith, h))) (plain_word t (omega (arith, k)))) (fits_in w128 _ (omega (arith, ints, h, k)))
-
-pub sum_size : (s t : ℤ) → unsigned_abs s < 2 ^ 71 → unsigned_abs t < 2 ^ 71 → unsigned_abs (word (word s +ℤ word t)) < 2 ^ 72
-sum_size s t h k =
-    let sum = sum_step s t h k in
-    rw sum.value (omega (arith, ints, h, k))
-
-pub difference_step : (s t : ℤ) → unsigned_abs s < 2 ^ 71 → unsigned_abs t < 2 ^ 71 → IsStep (word s -ℤ word t) (s -ℤ t)
-difference_step s t h k = step _ _ (ap₂ (λ u v. u -ℤ v) (plain_word s (omega (arith, h))) (plain_word t (omega (arith, k)))) (fits_in w128 _ (omega (arith, ints, h, k)))
-
-pub difference_size : (s t : ℤ) → unsigned_abs s < 2 ^ 71 → unsigned_abs t < 2 ^ 71 → unsigned_abs (word (word s -ℤ word t)) < 2 ^ 72
-difference_size s t h k =
-    let difference = difference_step s t h k in
-    rw difference.value (omega (arith, ints, h, k))
+pub difference_step : (s t : ℤ) → unsigned_abs s < 2 ^ 71 → unsigned_abs t < 2 ^ 71 → IsStep w128 (word s -ℤ word t) (s -ℤ t) (2 ^ 72)
+difference_step s t h k = steps.difference_step w128 s t (2 ^ 71) (2 ^ 71) h k (lit≤ tt)
 
 -- the product of a number of at most 74 bits and one of at most 32
-pub product_step : (n f : ℤ) → unsigned_abs n < 2 ^ 74 → unsigned_abs f < 2 ^ 32 → IsStep (word n *ℤ word f) (n *ℤ f)
-product_step n f h k = step _ _ (ap₂ (λ u v. u *ℤ v) (plain_word n (omega (arith, h))) (plain_word f (omega (arith, k)))) (fits_signed_mul w128 n f (2 ^ 74) (2 ^ 32) (omega (arith, h)) (omega (arith, k)) (lit< tt))
+pub product_step : (n f : ℤ) → unsigned_abs n < 2 ^ 74 → unsigned_abs f < 2 ^ 32 → IsStep w128 (word n *ℤ word f) (n *ℤ f) (2 ^ 106)
+product_step n f h k = steps.product_step w128 n f (2 ^ 74) (2 ^ 32) h (omega (arith, k)) (lit< tt) (lit< tt)
 
 -- of two numbers of at most 32
 pub product_size : (n f : ℤ) → unsigned_abs n < 2 ^ 32 → unsigned_abs f < 2 ^ 32 → unsigned_abs (word (word n *ℤ word f)) < 2 ^ 64
-product_size n f h k =
-    let product = product_step n f (omega (arith, h)) k in
-    let small : unsigned_abs n * unsigned_abs f ≤ 4294967295 * 4294967295 = mul-le-mul {n₂ = 4294967295} {m₂ = 4294967295} (omega (arith, h)) (omega (arith, k)) in
-    rw (product.value, unsigned_abs-mul n f) (omega (arith, small))
+product_size n f h k = (steps.product_step w128 n f (2 ^ 32) (2 ^ 32) h (omega (arith, k)) (lit< tt) (lit< tt)).size
 
 -- by a power of two
 pub raised_size : (n f : ℤ) → unsigned_abs n < 2 ^ 74 → unsigned_abs f ≤ 2 ^ 30 → unsigned_abs (word (word n *ℤ word f)) ≤ unsigned_abs n * 2 ^ 30

@@ -3,4 +3,5 @@ pub mod Integers
 pub mod RoundingLaws
 pub mod TypeLaws
 mod Words
+pub mod WordSteps
 pub mod RoundedFractions

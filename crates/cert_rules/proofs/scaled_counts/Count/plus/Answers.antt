@@ -1,5 +1,5 @@
 use Rattle.std.proofs.Common.{◌∙◌, ap₂, ◌+ℤ◌}
-use Rattle.cert_rules.proofs.WordSteps.{error_below, raised_below, sum_size, sum_step}
+use Rattle.cert_rules.proofs.WordSteps.{error_below, raised_below, sum_step}
 use Rattle.cert_rules.proofs.scaled_counts.Count.plus.Goals as goal
 
 pub raised-requires-clause-size : goal.raised-requires-clause-size
@@ -18,4 +18,4 @@ returns-clause-number c =
 
 pub returns-clause-size : goal.returns-clause-size
 returns-clause-size c =
-    sum_size c.raised.result.number c.raised-2.result.number (raised_below c.requires.first c.raised.ensures.size) (raised_below c.requires.second c.raised-2.ensures.size)
+    (sum_step c.raised.result.number c.raised-2.result.number (raised_below c.requires.first c.raised.ensures.size) (raised_below c.requires.second c.raised-2.ensures.size)).size

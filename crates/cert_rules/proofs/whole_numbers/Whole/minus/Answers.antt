@@ -1,4 +1,4 @@
-use Rattle.cert_rules.proofs.WordSteps.{count_below, difference_size, difference_step}
+use Rattle.cert_rules.proofs.WordSteps.{count_below, difference_step}
 use Rattle.cert_rules.proofs.whole_numbers.Whole.minus.Goals as goal
 
 pub overflow_sub-result : goal.overflow_sub-result
@@ -11,4 +11,4 @@ returns-clause-value c =
 
 pub returns-clause-size : goal.returns-clause-size
 returns-clause-size c =
-    difference_size c.args.self.number c.args.other.number (count_below c.requires.first) (count_below c.requires.second)
+    (difference_step c.args.self.number c.args.other.number (count_below c.requires.first) (count_below c.requires.second)).size

@@ -1,5 +1,5 @@
 use Rattle.std.proofs.Common.{◌∙◌, ap, ◌*ℤ◌}
-use Rattle.mfx_scaled.proofs.Sizes.{product_small, raised_step}
+use Rattle.mfx_scaled.proofs.Sizes.{raised_step}
 use Rattle.mfx_scaled.proofs.counts.Count.raised.Goals as goal
 
 pub overflow_mul-result : goal.overflow_mul-result
@@ -11,4 +11,4 @@ returns-clause-number c =
     ∙ ap (λ f. c.args.self.number *ℤ f) c.power_of_two.ensures.value
 
 pub returns-clause-size : goal.returns-clause-size
-returns-clause-size c = product_small c.args.self.number c.power_of_two.result c.requires.size c.power_of_two.ensures.size
+returns-clause-size c = (raised_step c.args.self.number c.power_of_two.result c.requires.size c.power_of_two.ensures.size).size
