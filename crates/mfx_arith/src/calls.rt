@@ -92,7 +92,13 @@ fn with_types<X: FxInt, Y: FxInt, Z: FxInt>(op: ArithOp, given: Given) -> i64
     requires shift { given.shift ≤ 15 }
     ensures { result ≡ arith_value op Z.TY given.x given.y given.z given.shift }
 {
-    let word: Z = answer::<X, Y, Z>(op, given);
+    count(answer::<X, Y, Z>(op, given))
+}
+
+// The number that a word stands for.
+fn count<W: FxInt>(word: W) -> i64
+    ensures { result ≡ W.wide word }
+{
     cast(word.to_wide()).unwrap()
 }
 
