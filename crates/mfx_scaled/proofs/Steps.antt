@@ -1,5 +1,5 @@
 -- The value of each form at raw counts, by a step on whole numbers.
-use Rattle.std.proofs.Common.{◌≡◌, ℕ, zero, suc, ◌+◌, ◌-◌, ◌*◌, ◌/◌, ◌<◌, ◌≤◌, ◌^◌, ℤ, pos, negsuc, neg_ℤ, ◌+ℤ◌, ◌-ℤ◌, ◌*ℤ◌, true, false, Bool, refl, sym, ap, ap₂, ◌∙◌, subst, arith, inl, inr, max, Some, None, mul_comm, pow_pos}
+use Rattle.std.proofs.Common.{◌≡◌, ℕ, zero, suc, ◌+◌, ◌-◌, ◌*◌, ◌/◌, ◌<◌, ◌≤◌, ◌^◌, ℤ, pos, negsuc, neg_ℤ, ◌+ℤ◌, ◌-ℤ◌, ◌*ℤ◌, true, false, Bool, refl, sym, ap, ap₂, ◌∙◌, subst, arith, inl, inr, max, Some, None, mul_comm, pow_pos, to_z, of_z, FitsSigned}
 use Rattle.std.specs.Prelude.{unsigned_abs, int_div, int_lt, if◌then◌else◌}
 use Rattle.std.proofs.Math.Nat.{mul-div-mul_right, zero-div}
 use native.Mathlib.Nat.{mul-pos}
@@ -14,6 +14,9 @@ use Rattle.fx_core.specs.Types.{greatest_of, least_of, saturated}
 use Rattle.fx_core.specs.Rounding.{power, rounded, shifted_rounded}
 use Rattle.fx_core.specs.Values.{rounded_fraction}
 use Rattle.fx_core.proofs.RoundingLaws.{rounded_by_one}
+use Rattle.std.specs.Int.{w64}
+use Rattle.fx_core.proofs.WordSteps.{plain}
+use Rattle.mfx_scaled.proofs.Sizes.{word}
 use Rattle.fx_core.proofs.TypeLaws.{least-greatest, saturated-held}
 use Rattle.mfx_arith.specs.Calls.{value_in}
 use Rattle.mfx_arith.specs.Integers.{quotient_in}
@@ -158,6 +161,17 @@ quotient-by_zero_end t n d h = quotient-by_zero t n d h ∙ end_saturated t (int
 pub quotient-by_other_nearest : (t : Ty) (n d : ℤ) → (d ≡ pos 0 → ⊥) → quotient_in t n d ≡ saturated t (int_div n d)
 quotient-by_other_nearest t n d h = quotient-by_other t n d h ∙ whole_in-saturated t (int_div n d)
 
+-- the same two cases as the code's words give them
+pub quotient_by_zero_word : (t : Ty) (n d r : ℤ) → unsigned_abs n < 2 ^ 62 → unsigned_abs d < 2 ^ 62 → of_z w64 d ≡ 0 → FitsSigned w64 r → r ≡ (if int_lt (word n) (pos 0) then least_of t else greatest_of t) → word r ≡ quotient_in t n d
+quotient_by_zero_word t n d r h k none fits e =
+    let numerator : word n ≡ n = plain w64 n (omega (arith, h)) in
+    let divisor : d ≡ pos 0 = sym (plain w64 d (omega (arith, k))) ∙ ap (to_z w64) none in
+    to_z-of_z w64 r fits ∙ e ∙ ap (λ z. if int_lt z (pos 0) then least_of t else greatest_of t) numerator ∙ sym (quotient-by_zero_end t n d divisor)
+
+pub quotient_by_other_word : (t : Ty) (n d q r : ℤ) → (of_z w64 d ≡ 0 → ⊥) → FitsSigned w64 q → FitsSigned w64 r → q ≡ int_div n d → r ≡ saturated t (word q) → word r ≡ quotient_in t n d
+quotient_by_other_word t n d q r some fits fits' e e' =
+    to_z-of_z w64 r fits' ∙ e' ∙ ap (saturated t) (to_z-of_z w64 q fits ∙ e) ∙ sym (quotient-by_other_nearest t n d (λ z. some (ap (of_z w64) z)))
+
 -- the sign of the divisor moves to the dividend
 int_div-negsuc : (n : ℤ) (k : ℕ) → int_div (neg_ℤ n) (pos (suc k)) ≡ int_div n (negsuc k)
 int_div-negsuc (pos zero) k = rw zero-div refl
@@ -203,11 +217,9 @@ div_is t x y points =
     let m = max points.a p in
     quotient_is t _ (is_whole_at_point x points.a p m (omega arith) (omega arith)) (is_whole y (2 ^ (m - p)) (pow_pos (m - p)))
 
--- what is stored of a count, and of a count that was raised; the two cases of a quotient; and the forms
+-- what is stored of a count, and of a count that was raised; and the forms
 pub ruleset storing = (count_in-lowered, to_z-of_z)
 
 pub ruleset converting = (count_in-raised, to_z-of_z)
-
-pub ruleset quotients = (quotient-by_zero_end, quotient-by_other_nearest, to_z-of_z)
 
 pub ruleset forms = (convert_is, add_is, sub_is, abs_diff_is, mul_is, div_is)

@@ -221,7 +221,6 @@ fn distance(from: u8, to: u8) -> i32
 
 // The quotient of the counts as the nearest of `t`, rounded toward zero, and an end of `t` where
 // the divisor is 0.
-#[tactic(auto, using(crate::proofs::Steps::quotients))]
 fn quotient(dividend: Count, divisor: Count, t: Ty) -> i64
     requires dividend { unsigned_abs dividend.number < 2 ^ 62 }
     requires divisor { unsigned_abs divisor.number < 2 ^ 62 }
