@@ -104,11 +104,11 @@ impl Shelf for MemShelf {
     {
         let fails = self.calls.does_next_fail();
         self.stock.close();
-        self.names.set(String::from_str(self.alloc, name)?);
-        if fails {
-            return Err(self.fail());
+        match String::from_str(self.alloc, name) {
+            Ok(copy) => self.names.set(copy),
+            Err(_) => return Err(ShelfFault::OutOfMemory),
         }
-        if self.stock.open(name) {
+        if !fails && self.stock.open(name) {
             return Ok(());
         }
         Err(self.fail())

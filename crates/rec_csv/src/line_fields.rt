@@ -14,7 +14,6 @@ use std::alloc::Global;
 pub const MOST_BYTES: usize = 65_536;
 
 /// Why a line has no fields.
-#[derive(Clone, Copy, Debug, PartialEq, Eq)]
 pub enum LineFault {
     /// The line has more than 65,536 bytes, or isn't exactly one record.
     BadLine,

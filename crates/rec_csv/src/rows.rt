@@ -35,7 +35,9 @@ pub fn fill(columns: &[Column], row: &ByteRecord, values: &mut [i64]) -> Result<
 pub fn value_of(column: Column, field: &[u8]) -> Result<i64, RowFault>
     ensures { result ≡ value_of column field.now }
 {
-    let value = number(trimmed(field)).ok_or(RowFault::BadNumber(column.wire))?;
+    let Some(value) = number(trimmed(field)) else {
+        return Err(RowFault::BadNumber(column.wire));
+    };
     if kind_holds(column.kind, value) {
         Ok(value)
     } else {
