@@ -202,12 +202,17 @@ impl Sink for MemSink {
         ensures failing { self.new.failing ≡ self.old.failing }
     {
         if self.calls.does_next_fail() {
-            self.kept.extend_from_slice(&piece[..piece.len() / 2])?;
+            match self.kept.extend_from_slice(&piece[..piece.len() / 2]) {
+                Ok(()) => {}
+                Err(_) => return Err(SinkFault::OutOfMemory),
+            }
             self.faults = self.faults.saturating_add(1);
             return Err(SinkFault::Failed);
         }
-        self.kept.extend_from_slice(piece)?;
-        Ok(())
+        match self.kept.extend_from_slice(piece) {
+            Ok(()) => Ok(()),
+            Err(_) => Err(SinkFault::OutOfMemory),
+        }
     }
 }
 
