@@ -4,7 +4,7 @@ ghost use Rattle.std.specs.Prelude.{◌≡◌};
 ghost use Rattle.fx_routines.specs.Shapes.{parts_in};
 
 /// A class of types.
-#[derive(Clone, Copy, Debug, PartialEq, Eq)]
+#[derive(Clone, Copy)]
 pub enum Class {
     /// Any type.
     Any,
@@ -19,7 +19,7 @@ pub enum Class {
 }
 
 /// What stands at one place of a name, behind its front.
-#[derive(Clone, Copy, Debug, PartialEq, Eq)]
+#[derive(Clone, Copy)]
 pub enum Part {
     /// The type of the first input.
     First(Class),

@@ -13,7 +13,7 @@ use fx_routines::{Routine, takes};
 const GREATEST_POINT: u8 = 15;
 
 /// The wires that a block is given. One that its routine doesn't have repeats the first.
-#[derive(Clone, Copy, Debug, PartialEq, Eq)]
+#[derive(Clone, Copy)]
 pub struct Arguments {
     pub x: WireNo,
     pub y: WireNo,

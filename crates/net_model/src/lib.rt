@@ -12,7 +12,7 @@ mod smoothness;
 mod wires;
 
 pub use built::{ArgumentTypes, GREATEST_SHIFT, argument_types, has_shift, is_built, scaled_types};
-pub use conditions::{Arguments, agrees, kind_holds};
+pub use conditions::{agrees, kind_holds};
 pub use draft_checks::{MOST_WIRES, has_ends, is_range};
 pub use naming::{Name, NameFault};
 pub use network::{Draft, NetKind, NetRefusal, Network};

@@ -11,7 +11,7 @@ use net_model::{Kind, Wire, WireNo};
 use std::alloc::Global;
 
 /// Where an input stands: its column from 0, its wire and its kind.
-#[derive(Clone, Copy, Debug, PartialEq, Eq)]
+#[derive(Clone, Copy)]
 pub struct Column {
     pub place: usize,
     pub wire: WireNo,
