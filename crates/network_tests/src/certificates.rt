@@ -2,9 +2,9 @@
 // reads, and lists that are no certificate. What is accepted and what isn't is in the end-to-end suite.
 ghost use Rattle.std.specs.Prelude.{◌<◌, ◌^◌, length};
 
+use crate::networks::network;
 use cert_rules::{BadBounds, Bounds, Certificate, argument, first_unsound, rule};
 use net_model::{Network, PartNo};
-use net_text::{NetError, read_net};
 use std::alloc::{AllocError, Global};
 use std::test::Fail;
 
@@ -38,14 +38,6 @@ const UNRULED_ENTRIES: [Numbers; 4] = [
     (0, 0, 0),
 ];
 
-fn network(alloc: Global, text: &[u8]) -> Result<Network, NetError> {
-    if text.len() < 1000 {
-        read_net(alloc, text)
-    } else {
-        Err(NetError::OutOfMemory)
-    }
-}
-
 fn bounds((lo, hi, err): Numbers) -> Bounds {
     Bounds { lo, hi, err }
 }
@@ -59,12 +51,12 @@ fn entries(alloc: Global, numbers: &[Numbers]) -> Result<Vec<Bounds>, AllocError
 }
 
 // What a part's rule gives, where there is an entry for each part and all are sound.
-fn rule_over(net: &Network, entries: &[Bounds], part: u32) -> Result<Option<Bounds>, &'static str> {
+fn rule_over(net: &Network, entries: &[Bounds], part: u32) -> Result<Option<Bounds>, Fail> {
     let parts = net.parts().len();
     if entries.len() == parts && (part as usize) < parts && first_unsound(net, entries).is_none() {
         Ok(rule(net, PartNo(part), entries))
     } else {
-        Err("an entry is missing or not sound")
+        Err("an entry is missing or not sound")?
     }
 }
 
@@ -77,28 +69,32 @@ fn ruled(
 ) -> Result<Option<Bounds>, Fail> {
     let net = network(alloc, text)?;
     let entries = entries(alloc, numbers)?;
-    Ok(rule_over(&net, &entries, part)?)
+    rule_over(&net, &entries, part)
 }
 
 #[test]
 fn rules_give_exact_bounds(rt: HostRuntime) -> Result<(), Fail> {
     for part in 4..8u32 {
         let given = ruled(rt.alloc(), RULED, &ENTRIES, part)?;
-        assert_eq!(rt; given, Some(bounds(ENTRIES[part as usize])), "part {part}");
+        assert_eq!(rt; given, Some(bounds(ENTRIES[part as usize])));
     }
     assert_eq!(rt; ruled(rt.alloc(), UNRULED, &UNRULED_ENTRIES, 3)?, None);
     Ok(())
 }
 
-// The parts that the rule of a part reads, the first two.
-fn arguments(alloc: Global, part: u32) -> Result<[Option<PartNo>; 2], Fail> {
-    let net = network(alloc, RULED)?;
+fn arguments_of(net: &Network, part: u32) -> Result<[Option<PartNo>; 2], Fail> {
     if (part as usize) < net.parts().len() {
         let part = PartNo(part);
-        Ok([argument(&net, part, 0), argument(&net, part, 1)])
+        Ok([argument(net, part, 0), argument(net, part, 1)])
     } else {
         Err("no such part")?
     }
+}
+
+// The parts that the rule of a part reads, the first two.
+fn arguments(alloc: Global, part: u32) -> Result<[Option<PartNo>; 2], Fail> {
+    let net = network(alloc, RULED)?;
+    arguments_of(&net, part)
 }
 
 #[test]
@@ -123,15 +119,16 @@ fn improper_at(alloc: Global, three: [Numbers; 3]) -> Result<Option<u32>, AllocE
 fn improper_entries_are_told(rt: HostRuntime) -> Result<(), Fail> {
     let limit = 1 << 62;
     let good = (-limit, limit, limit);
-    assert_eq!(rt; improper_at(rt.alloc(), [good, (3, 3, 0), good])?, None);
-    for bad in [
-        (4, 3, 0),
-        (3, 4, -1),
-        (3, limit + 1, 0),
-        (-limit - 1, 4, 0),
-        (3, 4, limit + 1),
+    for (entry, wanted) in [
+        ((3, 3, 0), None),
+        ((4, 3, 0), Some(1)),
+        ((3, 4, -1), Some(1)),
+        ((3, limit + 1, 0), Some(1)),
+        ((-limit - 1, 4, 0), Some(1)),
+        ((3, 4, limit + 1), Some(1)),
     ] {
-        assert_eq!(rt; improper_at(rt.alloc(), [good, bad, bad])?, Some(1));
+        let at = improper_at(rt.alloc(), [good, entry, entry])?;
+        assert_eq!(rt; at, wanted);
     }
     Ok(())
 }

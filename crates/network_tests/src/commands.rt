@@ -23,53 +23,77 @@ const FILES: [(&str, &str); 4] = [
 // A call that never comes.
 const NONE: u64 = u64::MAX;
 
+// The command lines that are tried.
+#[derive(Clone, Copy)]
+enum Line {
+    CheckCert,
+    RunRows,
+    RunShort,
+}
+
 // Command lines, the call of the shelf and the one of the sink that fail; the status, what is printed and what is said. A
 // start is call 0, its reads 1 and 2; the second file is started by call 3. Of a write that fails, half is written.
-const ANSWERS: [(&str, u64, u64, u8, &str, &str); 7] = [
-    ("check net cert", NONE, NONE, 0, "accepted\n", ""),
+const ANSWERS: [(Line, u64, u64, u8, &str, &str); 7] = [
+    (Line::CheckCert, NONE, NONE, 0, "accepted\n", ""),
     (
-        "run net short",
+        Line::RunShort,
         NONE,
         NONE,
         4,
         "s\n1\n",
         "row 2: bad width\n",
     ),
-    ("check net cert", 0, NONE, 2, "", "cannot read net\n"),
-    ("check net cert", 3, NONE, 2, "", "cannot read cert\n"),
-    ("run net rows", 3, NONE, 2, "", "cannot read rows\n"),
-    ("check net cert", NONE, 0, 7, "acce", "cannot write\n"),
-    ("run net rows", NONE, 0, 7, "s", "cannot write\n"),
+    (Line::CheckCert, 0, NONE, 2, "", "cannot read net\n"),
+    (Line::CheckCert, 3, NONE, 2, "", "cannot read cert\n"),
+    (Line::RunRows, 3, NONE, 2, "", "cannot read rows\n"),
+    (Line::CheckCert, NONE, 0, 7, "acce", "cannot write\n"),
+    (Line::RunRows, NONE, 0, 7, "s", "cannot write\n"),
 ];
+
+fn words_of(alloc: Global, line: Line) -> Result<Words, AllocError> {
+    let (command, file) = match line {
+        Line::CheckCert => ("check", "cert"),
+        Line::RunRows => ("run", "rows"),
+        Line::RunShort => ("run", "short"),
+    };
+    let mut words = Words::new(alloc);
+    words.add(command)?;
+    words.add("net")?;
+    words.add(file)?;
+    Ok(words)
+}
+
+fn shelf_of(alloc: Global, failing: u64) -> Result<MemShelf, AllocError> {
+    let files = stored_files(alloc, &FILES)?;
+    Ok(MemShelf::new(alloc, files, vec![in alloc; failing]?))
+}
+
+fn sink_of(alloc: Global, failing: u64) -> Result<MemSink, AllocError> {
+    Ok(MemSink::new(alloc, vec![in alloc; failing]?))
+}
 
 // The status of a command line, what was printed and what was said. It promises nothing, so that no test carries the
 // clauses of the call.
 fn answered(
     alloc: Global,
-    line: &str,
+    line: Line,
     unread: u64,
     unwritten: u64,
-) -> Result<(u8, Vec<u8>, Vec<u8>), AllocError> {
-    let mut words = Words::new(alloc);
-    for word in line.split_whitespace() {
-        words.add(word)?;
-    }
-    let files = stored_files(alloc, &FILES)?;
-    let mut shelf = MemShelf::new(alloc, files, vec![in alloc; unread]?);
-    let mut out = MemSink::new(alloc, vec![in alloc; unwritten]?);
+) -> Result<(u8, MemSink, SteadySink), AllocError> {
+    let words = words_of(alloc, line)?;
+    let mut shelf = shelf_of(alloc, unread)?;
+    let mut out = sink_of(alloc, unwritten)?;
     let mut err = SteadySink::new(alloc);
     let status = bench(alloc, &words, &mut shelf, &mut out, &mut err);
-    let printed = Vec::from_slice(alloc, out.written())?;
-    let said = Vec::from_slice(alloc, err.written())?;
-    Ok((status, printed, said))
+    Ok((status, out, err))
 }
 
 #[test]
 fn answers_command_lines(rt: HostRuntime) -> Result<(), Fail> {
     for (line, unread, unwritten, status, out, err) in ANSWERS {
         let (found, printed, said) = answered(rt.alloc(), line, unread, unwritten)?;
-        let given = (found, printed.as_slice(), said.as_slice());
-        assert_eq!(rt; given, (status, out.as_bytes(), err.as_bytes()), "{line}");
+        let given = (found, printed.written(), said.written());
+        assert_eq!(rt; given, (status, out.as_bytes(), err.as_bytes()));
     }
     Ok(())
 }

@@ -2,7 +2,8 @@
 
 use crate::stored_files::stored_files;
 use fx_io::{
-    FileShelf, MemShelf, ReadAllFault, Shelf, ShelfFault, Sink, StdSink, SteadyShelf, read_all,
+    FileShelf, MemShelf, ReadAllFault, Shelf, ShelfFault, Sink, SinkFault, StdSink, SteadyShelf,
+    read_all,
 };
 use std::alloc::{AllocError, Global};
 use std::test::Fail;
@@ -20,14 +21,18 @@ const READS: [(&str, u64, &[u8], Option<ReadAllFault>); 5] = [
     ("full", 2, b"", Some(ReadAllFault::ReadFault)),
 ];
 
+fn shelf_of(alloc: Global, failing: u64) -> Result<MemShelf, AllocError> {
+    let files = stored_files(alloc, &FILES)?;
+    Ok(MemShelf::new(alloc, files, vec![in alloc; failing]?))
+}
+
 // What is read of a file in memory.
 fn read(
     alloc: Global,
     name: &str,
     failing: u64,
 ) -> Result<(Vec<u8>, Option<ReadAllFault>), AllocError> {
-    let files = stored_files(alloc, &FILES)?;
-    let mut shelf = MemShelf::new(alloc, files, vec![in alloc; failing]?);
+    let mut shelf = shelf_of(alloc, failing)?;
     match read_all(alloc, &mut shelf, name, 4) {
         Ok(bytes) => Ok((bytes, None)),
         Err(fault) => Ok((Vec::new(alloc), Some(fault))),
@@ -44,7 +49,7 @@ fn read_steadily(alloc: Global) -> Result<Vec<u8>, Fail> {
 fn reads_files_in_memory(rt: HostRuntime) -> Result<(), Fail> {
     for (name, failing, bytes, fault) in READS {
         let found = read(rt.alloc(), name, failing)?;
-        assert_eq!(rt; (found.0.as_slice(), found.1), (bytes, fault), "{name}");
+        assert_eq!(rt; (found.0.as_slice(), found.1), (bytes, fault));
     }
     assert_eq!(rt; read_steadily(rt.alloc())?.as_slice(), b"four".as_slice());
     Ok(())
@@ -60,14 +65,19 @@ fn reads_real_files(rt: HostRuntime) -> Result<(), Fail> {
     Ok(())
 }
 
-#[test]
-fn writes_to_a_writer(rt: HostRuntime) -> Result<(), Fail> {
-    let mut kept: Vec<u8> = Vec::new(rt.alloc());
+// What a writer has of three pieces.
+fn written(alloc: Global) -> Result<Vec<u8>, SinkFault> {
+    let mut kept: Vec<u8> = Vec::new(alloc);
     let mut sink = StdSink::new(&mut kept);
     sink.write(b"12,")?;
     sink.write(b"")?;
     sink.write(b"34\n")?;
     drop(sink);
-    assert_eq!(rt; kept.as_slice(), b"12,34\n".as_slice());
+    Ok(kept)
+}
+
+#[test]
+fn writes_to_a_writer(rt: HostRuntime) -> Result<(), Fail> {
+    assert_eq!(rt; written(rt.alloc())?.as_slice(), b"12,34\n".as_slice());
     Ok(())
 }

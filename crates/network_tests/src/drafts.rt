@@ -4,8 +4,7 @@ use fx_core::Ty;
 use mfx_arith::{ArithOp, Variant};
 use mfx_scaled::ScaledOp;
 use net_model::{
-    Block, Draft, Item, Kind, Name, NameFault, NetKind, NetRefusal, Network, PartNo, Role, Wire,
-    WireNo,
+    Block, Draft, Item, Kind, Name, NetKind, NetRefusal, Network, PartNo, Role, Wire, WireNo,
 };
 use std::alloc::Global;
 use std::test::Fail;
@@ -44,47 +43,49 @@ const SUM: Sum = Sum {
     out_count: 1,
 };
 
-// Changes of the network, each with the wire and the kind for which it is refused.
-const REFUSED: [(Sum, u32, NetKind); 6] = [
-    (
-        Sum {
+// Changes of the network for which it is refused.
+#[derive(Clone, Copy)]
+enum Change {
+    UsedName,
+    OwnArgument,
+    OtherType,
+    EmptyRange,
+    OutputTwice,
+    NoOutput,
+}
+
+fn changed(change: Change) -> Sum {
+    match change {
+        Change::UsedName => Sum {
             name: [b'a'],
             ..SUM
         },
-        3,
-        NetKind::Repeated,
-    ),
-    (
-        Sum {
+        Change::OwnArgument => Sum {
             y: WireNo(3),
             ..SUM
         },
-        3,
-        NetKind::LaterWire,
-    ),
-    (Sum { v: UNLIKE, ..SUM }, 3, NetKind::TypeDiffers),
-    (Sum { lo: 1001, ..SUM }, 0, NetKind::OutOfRange),
-    (
-        Sum {
+        Change::OtherType => Sum { v: UNLIKE, ..SUM },
+        Change::EmptyRange => Sum { lo: 1001, ..SUM },
+        Change::OutputTwice => Sum {
             out_count: 2,
             ..SUM
         },
-        4,
-        NetKind::Repeated,
-    ),
-    (
-        Sum {
+        Change::NoOutput => Sum {
             out_count: 0,
             ..SUM
         },
-        4,
-        NetKind::Missing,
-    ),
-];
+    }
+}
 
-fn wire(alloc: Global, name: &[u8], kind: Kind, item: Item) -> Result<Wire, NameFault> {
+fn add_wire(
+    wires: &mut Vec<Wire>,
+    alloc: Global,
+    name: &[u8],
+    kind: Kind,
+    item: Item,
+) -> Result<(), Fail> {
     let name = Name::new(alloc, name)?;
-    Ok(Wire { name, kind, item })
+    Ok(wires.push(Wire { name, kind, item })?)
 }
 
 fn draft_of(alloc: Global, sum: Sum) -> Result<Draft, Fail> {
@@ -93,16 +94,16 @@ fn draft_of(alloc: Global, sum: Sum) -> Result<Draft, Fail> {
         lo: sum.lo,
         hi: 1000,
     };
-    wires.push(wire(alloc, b"a", Kind::Num(Ty::S16, 0), a)?)?;
+    add_wire(&mut wires, alloc, b"a", Kind::Num(Ty::S16, 0), a)?;
     let b = Item::Input { lo: -160, hi: 160 };
-    wires.push(wire(alloc, b"b", Kind::Num(Ty::S16, 4), b)?)?;
+    add_wire(&mut wires, alloc, b"b", Kind::Num(Ty::S16, 4), b)?;
     let c = Item::Block(Block::Scaled {
         op: ScaledOp::Convert,
         v: SAME,
         x: WireNo(1),
         y: WireNo(1),
     });
-    wires.push(wire(alloc, b"c", Kind::Num(Ty::S16, 0), c)?)?;
+    add_wire(&mut wires, alloc, b"c", Kind::Num(Ty::S16, 0), c)?;
     let s = Item::Block(Block::Arith {
         op: ArithOp::Add,
         v: sum.v,
@@ -111,11 +112,8 @@ fn draft_of(alloc: Global, sum: Sum) -> Result<Draft, Fail> {
         z: WireNo(0),
         sh: 0,
     });
-    wires.push(wire(alloc, &sum.name, Kind::Num(Ty::S16, 0), s)?)?;
-    let mut outs = Vec::new(alloc);
-    for _ in 0..sum.out_count {
-        outs.push(WireNo(3))?;
-    }
+    add_wire(&mut wires, alloc, &sum.name, Kind::Num(Ty::S16, 0), s)?;
+    let outs = vec![in alloc; WireNo(3); sum.out_count]?;
     Ok(Draft { wires, outs })
 }
 
@@ -145,26 +143,38 @@ fn third_part(net: &Network) -> Option<PartNo> {
     }
 }
 
+// What a network says of itself: its counts, the wires of two names, its third wire's part, and whether it is smooth.
+type Facts = ([usize; 4], [Option<WireNo>; 2], Option<PartNo>, bool);
+
+fn facts(net: &Network) -> Facts {
+    let found = [net.find(b"c"), net.find(b"t")];
+    (counts(net), found, third_part(net), net.smooth().is_ok())
+}
+
+fn facts_of(alloc: Global, sum: Sum) -> Result<Facts, Fail> {
+    let net = Network::new(alloc, draft_of(alloc, sum)?)?;
+    Ok(facts(&net))
+}
+
 #[test]
 fn makes_a_network(rt: HostRuntime) -> Result<(), Fail> {
-    let net = Network::new(rt.alloc(), draft_of(rt.alloc(), SUM)?)?;
-    let found = (net.find(b"c"), net.find(b"t"));
-    assert_eq!(rt;
-        (counts(&net), found, third_part(&net), net.smooth()),
-        (
-            [4, 4, 2, 1],
-            (Some(WireNo(2)), None),
-            Some(PartNo(2)),
-            Ok(())
-        )
-    );
+    let found = facts_of(rt.alloc(), SUM)?;
+    let wanted = ([4, 4, 2, 1], [Some(WireNo(2)), None], Some(PartNo(2)), true);
+    assert_eq!(rt; found, wanted);
     Ok(())
 }
 
 #[test]
 fn refuses_drafts(rt: HostRuntime) -> Result<(), Fail> {
-    for (sum, wire, kind) in REFUSED {
-        let refusal = refusal_of(rt.alloc(), sum)?;
+    for (change, wire, kind) in [
+        (Change::UsedName, 3, NetKind::Repeated),
+        (Change::OwnArgument, 3, NetKind::LaterWire),
+        (Change::OtherType, 3, NetKind::TypeDiffers),
+        (Change::EmptyRange, 0, NetKind::OutOfRange),
+        (Change::OutputTwice, 4, NetKind::Repeated),
+        (Change::NoOutput, 4, NetKind::Missing),
+    ] {
+        let refusal = refusal_of(rt.alloc(), changed(change))?;
         assert_eq!(rt; refusal, Some(NetRefusal::At { wire, kind }));
     }
     Ok(())

@@ -12,6 +12,8 @@ mod devices;
 #[cfg(test)]
 mod drafts;
 #[cfg(test)]
+mod networks;
+#[cfg(test)]
 mod stored_files;
 #[cfg(test)]
 mod texts;

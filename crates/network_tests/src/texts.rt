@@ -1,6 +1,7 @@
 // `net_text`: texts that are read and printed. The faults of others are told by the program in the end-to-end suite.
 
-use net_text::{print_net, read_net};
+use crate::networks::network;
+use net_text::print_net;
 use std::alloc::Global;
 use std::test::Fail;
 
@@ -18,10 +19,7 @@ const TEXTS: [(&[u8], &[u8]); 2] = [
 
 // A text as its network is printed.
 fn printed(alloc: Global, text: &[u8]) -> Result<Vec<u8>, Fail> {
-    if text.len() >= 1000 {
-        Err("a text too long for a test")?
-    }
-    let net = read_net(alloc, text)?;
+    let net = network(alloc, text)?;
     Ok(print_net(alloc, &net)?)
 }
 

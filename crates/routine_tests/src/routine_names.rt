@@ -67,6 +67,11 @@ const WORDS: [(&[u8], Option<(Routine, Variant)>); 8] = [
     (b"Efx_P_s16_s15", None),
 ];
 
+// What a word names. It promises nothing, so that no test carries the clauses of the call.
+fn named(word: &[u8]) -> Option<(Routine, Variant)> {
+    routine_named(word)
+}
+
 // The name of a routine of arithmetic, or nothing where it has no such types.
 fn name_of(alloc: Global, op: ArithOp, v: Variant) -> Result<Vec<u8>, AllocError> {
     let routine = Routine::Arith(op);
@@ -80,7 +85,7 @@ fn name_of(alloc: Global, op: ArithOp, v: Variant) -> Result<Vec<u8>, AllocError
 #[test]
 fn names_of_all_libraries(rt: HostRuntime) -> Result<(), Fail> {
     for (word, routine) in WORDS {
-        assert_eq!(rt; routine_named(word), routine);
+        assert_eq!(rt; named(word), routine);
     }
     let name = name_of(
         rt.alloc(),
