@@ -1,7 +1,9 @@
 -- A plain line reads as its pieces between commas.
-use Rattle.std.proofs.Common.{◌≡◌, ℕ, ◌≤◌, Bool, true, false, not, ◌||◌, ◌==◌, cond, List, [], ◌∷◌, ◌++◌, length, take, drop, ◌<◌, arith, nat_le, refl, sym, ap, ◌∙◌, append_assoc, append-nil, Option, Some}
+use Rattle.std.proofs.Common.{◌≡◌, ℕ, suc, ◌+◌, ◌≤◌, Bool, true, false, not, ◌||◌, ◌==◌, cond, List, [], ◌∷◌, ◌++◌, length, take, drop, get_or, ◌-◌, ◌<◌, arith, nat_le, refl, sym, subst, ap, ◌∙◌, append_assoc, append-nil, inl, inr, Option, Some}
 use Rattle.std.specs.List.{list_all, onto_first, prefix_len}
-use Rattle.std.proofs.lemmas.Bool.{and_parts, not-true}
+use Rattle.std.proofs.lemmas.Bool.{and_parts, eqb-true, not-true}
+use Rattle.std.proofs.lemmas.Bool.Decides.{eqb_tells}
+use Rattle.std.proofs.lemmas.List.{take_rest}
 use Rattle.csv.specs.Machine.{Read, next_record, step, ends_at_end}
 use Rattle.csv.specs.Reading.{default_config, strip_bom}
 use Rattle.csv.specs.declared.parser.State.{State}
@@ -10,7 +12,7 @@ use Rattle.csv.specs.declared.parser.Action.{Action}
 use Rattle.csv.specs.declared.parser.Action.TheVariants as act
 use Rattle.text_words.specs.Lines.{pieces}
 use Rattle.text_words.proofs.Cuts.{front_of_pieces}
-use Rattle.rec_csv.specs.Fields.{fields_of_line, is_comma, is_plain, is_plain_byte, only_record}
+use Rattle.rec_csv.specs.Fields.{begins_plain, fields_of_line, goes_on, is_comma, is_plain, is_plain_byte, only_record}
 
 -- a byte that is none of three
 none_of_three : (a b c : Bool) → not (a || b || c) ≡ true → (a ≡ false) × (b ≡ false) × (c ≡ false)
@@ -119,10 +121,10 @@ no_more fields = refl
 
 -- a plain line has the pieces between its commas for fields
 pub fields_of_plain : (line : List ℕ) → is_plain line ≡ true → fields_of_line line ≡ Some (pieces is_comma line)
-unfolding is_plain fields_of_line
+unfolding begins_plain fields_of_line
 fields_of_plain [] plain = cc
 fields_of_plain (byte ∷ bytes) plain =
-    let p = and_parts _ (list_all is_plain_byte (byte ∷ bytes)) plain in
+    let p = and_parts (begins_plain (byte ∷ bytes)) (list_all is_plain_byte (byte ∷ bytes)) plain in
     let q = and_parts (not (byte == 239)) (nat_le (length (byte ∷ bytes)) 65536) p.0 in
     rw (q.1, no_mark byte bytes (not-true _ q.0), reads_record byte bytes p.1) (no_more (pieces is_comma (byte ∷ bytes)))
 
@@ -156,3 +158,78 @@ cut_more bytes n is some =
     let rest : pieces is_comma (drop n bytes) ≡ [] ∷ front.0 = rw is front.2 in
     let same = others_more (drop n bytes) front.0 (omega (arith, some)) rest in
     front.1 ∙ ap (λ k. take k bytes ∷ front.0) (sym is) ∙ ap (λ l. take n bytes ∷ l) same
+
+-- ---- where a walk stops
+
+-- what stands where the bytes that go on end: nothing, a comma, or a byte that isn't plain
+abbrev AtStop : List ℕ → List ℕ → Type 0
+AtStop bytes [] = (prefix_len (λ byte. not (is_comma byte)) bytes ≡ prefix_len goes_on bytes) × (list_all is_plain_byte bytes ≡ true)
+AtStop bytes (byte ∷ behind) =
+    (is_comma byte ≡ true → (prefix_len (λ byte. not (is_comma byte)) bytes ≡ prefix_len goes_on bytes) × (list_all is_plain_byte bytes ≡ list_all is_plain_byte behind))
+    × (is_comma byte ≡ false → list_all is_plain_byte bytes ≡ false)
+
+-- one byte more in front
+stops_later : (byte : ℕ) (bytes rest : List ℕ) → is_comma byte ≡ false → is_plain_byte byte ≡ true → AtStop bytes rest → AtStop (byte ∷ bytes) rest
+stops_later byte bytes [] comma plain stop = (rw (comma, plain) (ap (λ n. 1 + n) stop.0), rw plain stop.1)
+stops_later byte bytes (next ∷ behind) comma plain stop = (
+  (λ is. (rw (comma, plain) (ap (λ n. 1 + n) (stop.0 is).0), rw plain (stop.0 is).1)),
+  (λ no. rw plain (stop.1 no)),
+)
+
+plain_comma : (byte : ℕ) → is_comma byte ≡ true → is_plain_byte byte ≡ true
+plain_comma byte is = rw (eqb-true byte 44 is) refl
+
+stops_by : (byte : ℕ) (bytes : List ℕ) (comma plain : Bool) → is_comma byte ≡ comma → is_plain_byte byte ≡ plain → AtStop bytes (drop (prefix_len goes_on bytes) bytes) → AtStop (byte ∷ bytes) (drop (prefix_len goes_on (byte ∷ bytes)) (byte ∷ bytes))
+stops_by byte bytes true plain is p stop =
+    rw is ((λ c. (rw is refl, rw (plain_comma byte is) refl)), (λ no. cc))
+stops_by byte bytes false true is p stop =
+    let next : 1 + prefix_len goes_on bytes ≡ suc (prefix_len goes_on bytes) = omega arith in
+    rw (is, p, next) (stops_later byte bytes (drop (prefix_len goes_on bytes) bytes) is p stop)
+stops_by byte bytes false false is p stop =
+    rw (is, p) ((λ c. cc), (λ no. rw p refl))
+
+stops : (bytes : List ℕ) → AtStop bytes (drop (prefix_len goes_on bytes) bytes)
+stops [] = (refl, refl)
+stops (byte ∷ bytes) = stops_by byte bytes (is_comma byte) (is_plain_byte byte) refl refl (stops bytes)
+
+-- ---- one field of a walk
+
+no_comma : (byte : ℕ) → (byte ≡ 44 → ⊥) → is_comma byte ≡ false
+no_comma byte other = elim (eqb_tells byte 44) [ inl same ↦ absurd (other same.1) | inr apart ↦ apart.0 ]
+
+no_bytes : (bytes : List ℕ) → length bytes ≡ 0 → bytes ≡ []
+no_bytes [] none = refl
+no_bytes (byte ∷ bytes) none = absurd (omega (arith, none))
+
+-- nothing is behind it
+pub field_last : (bytes : List ℕ) (n : ℕ) → n ≡ prefix_len goes_on bytes → length (drop n bytes) ≡ 0 → (pieces is_comma bytes ≡ take n bytes ∷ []) × (list_all is_plain_byte bytes ≡ true)
+field_last bytes n is none =
+    let empty : drop n bytes ≡ [] = no_bytes (drop n bytes) none in
+    let stop : AtStop bytes [] = subst (AtStop bytes) (ap (λ k. drop k bytes) (sym is) ∙ empty) (stops bytes) in
+    (cut_last bytes n (is ∙ sym stop.0) none, stop.1)
+
+-- a comma is
+pub field_more : (bytes : List ℕ) (n byte : ℕ) (behind : List ℕ) → n ≡ prefix_len goes_on bytes → drop n bytes ≡ byte ∷ behind → is_comma byte ≡ true → (pieces is_comma bytes ≡ take n bytes ∷ pieces is_comma behind) × (list_all is_plain_byte bytes ≡ list_all is_plain_byte behind)
+field_more bytes n byte behind is rest comma =
+    let stop : AtStop bytes (byte ∷ behind) = subst (AtStop bytes) (ap (λ k. drop k bytes) (sym is) ∙ rest) (stops bytes) in
+    let found = stop.0 comma in
+    let cut = cut_more bytes n (is ∙ sym found.0) (rw rest (omega arith)) in
+    (rw rest at cut, found.1)
+
+-- or another byte that doesn't go on
+pub not_plain : (bytes : List ℕ) (n byte : ℕ) (behind : List ℕ) → n ≡ prefix_len goes_on bytes → drop n bytes ≡ byte ∷ behind → is_comma byte ≡ false → list_all is_plain_byte bytes ≡ false
+not_plain bytes n byte behind is rest other =
+    let stop : AtStop bytes (byte ∷ behind) = subst (AtStop bytes) (ap (λ k. drop k bytes) (sym is) ∙ rest) (stops bytes) in
+    stop.1 other
+
+-- the same as a walk finds them: what is behind a comma
+pub comma_behind : (bytes front rest : List ℕ) (n : ℕ) → n ≡ prefix_len goes_on bytes → front ≡ take n bytes → rest ≡ drop n bytes → 1 ≤ length rest → get_or rest 0 0 ≡ 44
+    → (pieces is_comma bytes ≡ front ∷ pieces is_comma (take (length rest - 1) (drop 1 rest))) × (list_all is_plain_byte bytes ≡ list_all is_plain_byte (take (length rest - 1) (drop 1 rest)))
+comma_behind bytes front [] n is before behind some first = absurd (omega (arith, some))
+comma_behind bytes front (byte ∷ rest) n is before behind some first =
+    rw (take_rest (byte ∷ rest) 1, before) (field_more bytes n byte rest is (sym behind) (rw first refl))
+
+-- and a byte that isn't plain
+pub other_behind : (bytes rest : List ℕ) (n : ℕ) → n ≡ prefix_len goes_on bytes → rest ≡ drop n bytes → 1 ≤ length rest → (get_or rest 0 0 ≡ 44 → ⊥) → list_all is_plain_byte bytes ≡ false
+other_behind bytes [] n is behind some other = absurd (omega (arith, some))
+other_behind bytes (byte ∷ rest) n is behind some other = not_plain bytes n byte rest is (sym behind) (no_comma byte other)

@@ -2,12 +2,13 @@
 use Rattle.std.proofs.Common.{◌≡◌, ℕ, zero, suc, ◌+◌, ◌≤◌, ◌<◌, Bool, true, false, List, [], ◌∷◌, length, take, drop, get_or, set, nat_le, refl, sym, ap, ◌∙◌, subst, inl, inr, arith, add-zero, get_or-set_same, get_or-set_other, Option, Some, None, Result, Ok, Err, MatchOption, MatchResult, Bor, OnOk, IfErr, ℤ, pos}
 use Rattle.std.proofs.lemmas.Bool.{cases_lt, cases_eq, leb-true, leb-false, lt-leb, le-leb}
 use Rattle.std.proofs.lemmas.List.{drop-drop, get_or-drop, length-drop, length-set}
+use Rattle.std.specs.List.{list_all}
 use Rattle.text_words.specs.Lines.{pieces}
 use Rattle.rec_csv.specs.declared.columns.Column.{Column}
 use Rattle.rec_csv.specs.declared.faults.RowFault.{RowFault}
 use Rattle.rec_csv.specs.declared.faults.RowFault.TheVariants.{BadWidth}
 use Rattle.rec_csv.specs.declared.plain_rows.Verdict.{Verdict}
-use Rattle.rec_csv.specs.Fields.{field_in, is_comma, is_plain}
+use Rattle.rec_csv.specs.Fields.{begins_plain, field_in, is_comma, is_plain, is_plain_byte}
 use Rattle.rec_csv.specs.Rows.{Leaves, Tells, good_values, row_of, value_of, values_before, values_of}
 use Rattle.rec_csv.specs.Slots.{IsTable, column_at, header_with}
 use Rattle.rec_csv.specs.Verdicts.{values_after, verdict_after}
@@ -185,3 +186,12 @@ pub rest_more : (fields : List (List ℕ)) (place : ℕ) (bytes field : List ℕ
     → (place < length fields) × (field ≡ field_in fields place) × MatchOption behind (drop (place + 1) fields ≡ []) (λ b. drop (place + 1) fields ≡ pieces is_comma b.now)
 rest_more fields place bytes field None left cut = field_here fields place field [] (left ∙ cut)
 rest_more fields place bytes field (Some b) left cut = field_here fields place field (pieces is_comma b.now) (left ∙ cut)
+
+-- and whether the line is plain hangs on what is left
+pub plain_more : (line : Bool) (bytes : List ℕ) (behind : Option (Bor (List ℕ))) → line ≡ list_all is_plain_byte bytes → MatchOption behind (list_all is_plain_byte bytes ≡ true) (λ b. list_all is_plain_byte bytes ≡ list_all is_plain_byte b.now)
+    → MatchOption behind (line ≡ true) (λ b. line ≡ list_all is_plain_byte b.now)
+plain_more line bytes None left more = left ∙ more
+plain_more line bytes (Some b) left more = left ∙ more
+
+pub plain_line : (line : List ℕ) → begins_plain line ≡ true → list_all is_plain_byte line ≡ true → is_plain line ≡ true
+plain_line line begins all = rw (begins, all) refl

@@ -31,12 +31,18 @@ is_comma byte = byte == 44
 abbrev pub is_plain_byte : ℕ → Bool
 is_plain_byte byte = not ((byte == 34) || (byte == 13) || (byte == 10))
 
--- a line whose fields are simply the pieces between its commas: it isn't empty, doesn't begin as a byte-order mark
--- does, isn't too long, and has plain bytes alone
-unfoldable pub is_plain : List ℕ → Bool
-is_plain [] = false
-is_plain (byte ∷ bytes) =
-    not (byte == 239) && nat_le (length (byte ∷ bytes)) 65536 && list_all is_plain_byte (byte ∷ bytes)
+-- a line that isn't empty, doesn't begin as a byte-order mark does, and isn't too long
+unfoldable pub begins_plain : List ℕ → Bool
+begins_plain [] = false
+begins_plain (byte ∷ bytes) = not (byte == 239) && nat_le (length (byte ∷ bytes)) 65536
+
+-- a line whose fields are simply the pieces between its commas: such a line with plain bytes alone
+abbrev pub is_plain : List ℕ → Bool
+is_plain line = begins_plain line && list_all is_plain_byte line
+
+-- a plain byte that ends no field
+abbrev pub goes_on : ℕ → Bool
+goes_on byte = not (is_comma byte) && is_plain_byte byte
 
 -- the field of a column, from 0, with no bytes where there is none
 abbrev pub field_in : List (List ℕ) → ℕ → List ℕ

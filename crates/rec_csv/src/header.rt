@@ -1,5 +1,5 @@
 // The header and the rows.
-ghost use Rattle.std.specs.Prelude.{◌≡◌, IfErr, IfOk, IsTrue, OnOk, Ok, length};
+ghost use Rattle.std.specs.Prelude.{◌≡◌, IfErr, IfOk, IfSome, OnOk, Ok, is_some, length};
 ghost use Rattle.net_model.specs.Wires.{inputs_of};
 ghost use Rattle.rec_csv.specs.Fields.{is_plain};
 ghost use Rattle.rec_csv.specs.Headers.{TellsHead, header_of};
@@ -8,7 +8,7 @@ ghost use Rattle.rec_csv.specs.Rows.{Leaves, Tells, row_of, values_before};
 use crate::columns::{Column, columns_of};
 use crate::faults::{HeadFault, RowFault};
 use crate::line_fields::{LineFault, fields};
-use crate::plain_rows::{fill_plain, is_plain};
+use crate::plain_rows::fill_plain;
 use crate::rows::fill;
 use crate::slots::slots_of;
 use net_model::Network;
@@ -68,20 +68,20 @@ impl Header {
         ensures fault { IfErr result (Tells (row_of self.now line.now)) }
         ensures before { IfErr result (Leaves (values_before self.now line.now) values.new) }
     {
-        if is_plain(line) {
-            self.plain_row(line, values)
-        } else {
-            self.read_row(alloc, line, values)
+        match self.plain_row(line, values) {
+            Some(row) => row,
+            None => self.read_row(alloc, line, values),
         }
     }
 
-    // The same of a plain line, from the pieces between its commas.
-    pub(crate) fn plain_row(&self, line: &[u8], values: &mut [i64]) -> Result<(), RowFault>
-        requires plain { IsTrue (is_plain line.now) }
-        requires one_each { length values.old ≡ length self.now.columns }
-        ensures values { OnOk result (row_of self.now line.now ≡ Ok values.new) }
-        ensures fault { IfErr result (Tells (row_of self.now line.now)) }
-        ensures before { IfErr result (Leaves (values_before self.now line.now) values.new) }
+    // The same of a plain line, from the pieces between its commas, and None of another.
+    pub(crate) fn plain_row(&self, line: &[u8], values: &mut [i64]) -> Option<Result<(), RowFault>>
+        requires { length values.old ≡ length self.now.columns }
+        ensures plain { is_some result ≡ is_plain line.now }
+        ensures kept { length values.new ≡ length self.now.columns }
+        ensures values { IfSome result (λ row. OnOk row (row_of self.now line.now ≡ Ok values.new)) }
+        ensures fault { IfSome result (λ row. IfErr row (Tells (row_of self.now line.now))) }
+        ensures before { IfSome result (λ row. IfErr row (Leaves (values_before self.now line.now) values.new)) }
     {
         fill_plain(&self.columns, &self.slots, line, values)
     }
