@@ -53,7 +53,7 @@ fn with_digit(total: u64, digit: u8) -> u64
     requires { digit < 10 }
     ensures { result ≡ min (2 ^ 64 - 1) (total * 10 + digit) }
 {
-    if total < 1 << 60 {
+    if total < 1 << 31 {
         total * 10 + u64::from(digit)
     } else {
         total.saturating_mul(10).saturating_add(u64::from(digit))
