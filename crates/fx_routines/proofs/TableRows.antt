@@ -1,11 +1,11 @@
 -- The rows at their places.
-use Rattle.std.proofs.Common.{◌≡◌, ℕ, zero, suc, ◌+◌, ◌<◌, ◌≤◌, Bool, true, false, cond, List, [], ◌∷◌, length, map, get_or, drop, find, slice_index_or, Option, Some, None, refl, sym, ap, subst, ◌∙◌, Bor, arith, add-one, drop-cons}
+use Rattle.std.proofs.Common.{◌≡◌, ℕ, zero, suc, ◌+◌, ◌<◌, ◌≤◌, Bool, true, List, [], ◌∷◌, length, map, drop, find, slice_index_or, Some, None, refl, ap, subst, ◌∙◌, Bor, arith, add-one, drop-cons}
 use Rattle.std.proofs.lemmas.List.{drop_all}
 use Rattle.fx_routines.specs.declared.operation.Variant.{Variant}
 use Rattle.fx_routines.specs.declared.shape.Shape.{Shape}
 use Rattle.fx_routines.specs.declared.table.Routine.{Routine}
 use Rattle.fx_routines.specs.Rows.{Row, rows, row_at, IsAt}
-use Rattle.fx_routines.specs.Reading.{named_among, row_named, or_else}
+use Rattle.fx_routines.specs.Reading.{named_among, row_named}
 
 -- a row as the code has it
 abbrev pub Seen : Type 0

@@ -145,14 +145,14 @@ others_more [] others some is = absurd (omega (arith, some))
 others_more (byte ∷ bytes) others some is = others_by byte (is_comma byte) (pieces is_comma bytes) others is
 
 -- the only field
-pub cut_last : (bytes : List ℕ) (n : ℕ) → n ≡ prefix_len (λ byte. not (is_comma byte)) bytes → length (drop n bytes) ≡ 0 → pieces is_comma bytes ≡ take n bytes ∷ []
+cut_last : (bytes : List ℕ) (n : ℕ) → n ≡ prefix_len (λ byte. not (is_comma byte)) bytes → length (drop n bytes) ≡ 0 → pieces is_comma bytes ≡ take n bytes ∷ []
 cut_last bytes n is none =
     let front = front_of_pieces is_comma bytes in
     let rest : pieces is_comma (drop n bytes) ≡ [] ∷ front.0 = rw is front.2 in
     rw is (front.1 ∙ ap (λ l. take (prefix_len (λ byte. not (is_comma byte)) bytes) bytes ∷ l) (others_none (drop n bytes) front.0 none rest))
 
 -- a field and a comma
-pub cut_more : (bytes : List ℕ) (n : ℕ) → n ≡ prefix_len (λ byte. not (is_comma byte)) bytes → 1 ≤ length (drop n bytes) → pieces is_comma bytes ≡ take n bytes ∷ pieces is_comma (drop 1 (drop n bytes))
+cut_more : (bytes : List ℕ) (n : ℕ) → n ≡ prefix_len (λ byte. not (is_comma byte)) bytes → 1 ≤ length (drop n bytes) → pieces is_comma bytes ≡ take n bytes ∷ pieces is_comma (drop 1 (drop n bytes))
 cut_more bytes n is some =
     let front = front_of_pieces is_comma bytes in
     let rest : pieces is_comma (drop n bytes) ≡ [] ∷ front.0 = rw is front.2 in
@@ -209,7 +209,7 @@ field_last bytes n is none =
     (cut_last bytes n (is ∙ sym stop.0) none, stop.1)
 
 -- a comma is
-pub field_more : (bytes : List ℕ) (n byte : ℕ) (behind : List ℕ) → n ≡ prefix_len goes_on bytes → drop n bytes ≡ byte ∷ behind → is_comma byte ≡ true → (pieces is_comma bytes ≡ take n bytes ∷ pieces is_comma behind) × (list_all is_plain_byte bytes ≡ list_all is_plain_byte behind)
+field_more : (bytes : List ℕ) (n byte : ℕ) (behind : List ℕ) → n ≡ prefix_len goes_on bytes → drop n bytes ≡ byte ∷ behind → is_comma byte ≡ true → (pieces is_comma bytes ≡ take n bytes ∷ pieces is_comma behind) × (list_all is_plain_byte bytes ≡ list_all is_plain_byte behind)
 field_more bytes n byte behind is rest comma =
     let stop : AtStop bytes (byte ∷ behind) = subst (AtStop bytes) (ap (λ k. drop k bytes) (sym is) ∙ rest) (stops bytes) in
     let found = stop.0 comma in
@@ -217,7 +217,7 @@ field_more bytes n byte behind is rest comma =
     (rw rest at cut, found.1)
 
 -- or another byte that doesn't go on
-pub not_plain : (bytes : List ℕ) (n byte : ℕ) (behind : List ℕ) → n ≡ prefix_len goes_on bytes → drop n bytes ≡ byte ∷ behind → is_comma byte ≡ false → list_all is_plain_byte bytes ≡ false
+not_plain : (bytes : List ℕ) (n byte : ℕ) (behind : List ℕ) → n ≡ prefix_len goes_on bytes → drop n bytes ≡ byte ∷ behind → is_comma byte ≡ false → list_all is_plain_byte bytes ≡ false
 not_plain bytes n byte behind is rest other =
     let stop : AtStop bytes (byte ∷ behind) = subst (AtStop bytes) (ap (λ k. drop k bytes) (sym is) ∙ rest) (stops bytes) in
     stop.1 other
