@@ -192,44 +192,36 @@ stops : (bytes : List ℕ) → AtStop bytes (drop (prefix_len goes_on bytes) byt
 stops [] = (refl, refl)
 stops (byte ∷ bytes) = stops_by byte bytes (is_comma byte) (is_plain_byte byte) refl refl (stops bytes)
 
+-- what a walk finds there
+stop_at : (bytes rest : List ℕ) (n : ℕ) → n ≡ prefix_len goes_on bytes → rest ≡ drop n bytes → AtStop bytes rest
+stop_at bytes rest n is behind = subst (AtStop bytes) (sym (behind ∙ ap (λ k. drop k bytes) is)) (stops bytes)
+
 -- ---- one field of a walk
+
+no_bytes : (bytes : List ℕ) → length bytes ≡ 0 → [] ≡ bytes
+no_bytes [] none = refl
+no_bytes (byte ∷ bytes) none = absurd (omega (arith, none))
 
 no_comma : (byte : ℕ) → (byte ≡ 44 → ⊥) → is_comma byte ≡ false
 no_comma byte other = elim (eqb_tells byte 44) [ inl same ↦ absurd (other same.1) | inr apart ↦ apart.0 ]
 
-no_bytes : (bytes : List ℕ) → length bytes ≡ 0 → bytes ≡ []
-no_bytes [] none = refl
-no_bytes (byte ∷ bytes) none = absurd (omega (arith, none))
-
 -- nothing is behind it
 pub field_last : (bytes : List ℕ) (n : ℕ) → n ≡ prefix_len goes_on bytes → length (drop n bytes) ≡ 0 → (pieces is_comma bytes ≡ take n bytes ∷ []) × (list_all is_plain_byte bytes ≡ true)
 field_last bytes n is none =
-    let empty : drop n bytes ≡ [] = no_bytes (drop n bytes) none in
-    let stop : AtStop bytes [] = subst (AtStop bytes) (ap (λ k. drop k bytes) (sym is) ∙ empty) (stops bytes) in
+    let stop = stop_at bytes [] n is (no_bytes (drop n bytes) none) in
     (cut_last bytes n (is ∙ sym stop.0) none, stop.1)
 
 -- a comma is
-field_more : (bytes : List ℕ) (n byte : ℕ) (behind : List ℕ) → n ≡ prefix_len goes_on bytes → drop n bytes ≡ byte ∷ behind → is_comma byte ≡ true → (pieces is_comma bytes ≡ take n bytes ∷ pieces is_comma behind) × (list_all is_plain_byte bytes ≡ list_all is_plain_byte behind)
-field_more bytes n byte behind is rest comma =
-    let stop : AtStop bytes (byte ∷ behind) = subst (AtStop bytes) (ap (λ k. drop k bytes) (sym is) ∙ rest) (stops bytes) in
-    let found = stop.0 comma in
-    let cut = cut_more bytes n (is ∙ sym found.0) (rw rest (omega arith)) in
-    (rw rest at cut, found.1)
-
--- or another byte that doesn't go on
-not_plain : (bytes : List ℕ) (n byte : ℕ) (behind : List ℕ) → n ≡ prefix_len goes_on bytes → drop n bytes ≡ byte ∷ behind → is_comma byte ≡ false → list_all is_plain_byte bytes ≡ false
-not_plain bytes n byte behind is rest other =
-    let stop : AtStop bytes (byte ∷ behind) = subst (AtStop bytes) (ap (λ k. drop k bytes) (sym is) ∙ rest) (stops bytes) in
-    stop.1 other
-
--- the same as a walk finds them: what is behind a comma
 pub comma_behind : (bytes front rest : List ℕ) (n : ℕ) → n ≡ prefix_len goes_on bytes → front ≡ take n bytes → rest ≡ drop n bytes → 1 ≤ length rest → get_or rest 0 0 ≡ 44
     → (pieces is_comma bytes ≡ front ∷ pieces is_comma (take (length rest - 1) (drop 1 rest))) × (list_all is_plain_byte bytes ≡ list_all is_plain_byte (take (length rest - 1) (drop 1 rest)))
 comma_behind bytes front [] n is before behind some first = absurd (omega (arith, some))
 comma_behind bytes front (byte ∷ rest) n is before behind some first =
-    rw (take_rest (byte ∷ rest) 1, before) (field_more bytes n byte rest is (sym behind) (rw first refl))
+    let found = (stop_at bytes (byte ∷ rest) n is behind).0 (rw first refl) in
+    let cut = cut_more bytes n (is ∙ sym found.0) (rw (sym behind) some) in
+    rw (take_rest (byte ∷ rest) 1, before) (rw (sym behind) at cut, found.1)
 
--- and a byte that isn't plain
+-- or a byte that isn't plain
 pub other_behind : (bytes rest : List ℕ) (n : ℕ) → n ≡ prefix_len goes_on bytes → rest ≡ drop n bytes → 1 ≤ length rest → (get_or rest 0 0 ≡ 44 → ⊥) → list_all is_plain_byte bytes ≡ false
 other_behind bytes [] n is behind some other = absurd (omega (arith, some))
-other_behind bytes (byte ∷ rest) n is behind some other = not_plain bytes n byte rest is (sym behind) (no_comma byte other)
+other_behind bytes (byte ∷ rest) n is behind some other =
+    (stop_at bytes (byte ∷ rest) n is behind).1 (no_comma byte other)

@@ -8,7 +8,7 @@ use Rattle.rec_csv.specs.declared.columns.Column.{Column}
 use Rattle.rec_csv.specs.declared.faults.RowFault.{RowFault}
 use Rattle.rec_csv.specs.declared.faults.RowFault.TheVariants.{BadWidth}
 use Rattle.rec_csv.specs.declared.plain_rows.Verdict.{Verdict}
-use Rattle.rec_csv.specs.Fields.{begins_plain, field_in, is_comma, is_plain, is_plain_byte}
+use Rattle.rec_csv.specs.Fields.{field_in, is_comma, is_plain, is_plain_byte}
 use Rattle.rec_csv.specs.Rows.{Leaves, Tells, good_values, row_of, value_of, values_before, values_of}
 use Rattle.rec_csv.specs.Slots.{IsTable, column_at, header_with}
 use Rattle.rec_csv.specs.Verdicts.{values_after, verdict_after}
@@ -192,6 +192,3 @@ pub plain_more : (line : Bool) (bytes : List ℕ) (behind : Option (Bor (List �
     → MatchOption behind (line ≡ true) (λ b. line ≡ list_all is_plain_byte b.now)
 plain_more line bytes None left more = left ∙ more
 plain_more line bytes (Some b) left more = left ∙ more
-
-pub plain_line : (line : List ℕ) → begins_plain line ≡ true → list_all is_plain_byte line ≡ true → is_plain line ≡ true
-plain_line line begins all = rw (begins, all) refl

@@ -1,8 +1,9 @@
 use Rattle.std.proofs.Common.{◌≡◌, true, sym, ◌∙◌, arith}
+use Rattle.std.specs.Cmp.Derive.{both_true}
 use Rattle.std.specs.List.{list_all}
 use Rattle.text_words.specs.Lines.{pieces}
 use Rattle.rec_csv.specs.Fields.{is_comma, is_plain_byte}
-use Rattle.rec_csv.proofs.WalkFacts.{ends, plain_line, plain_more, rest_more, known_more, known_past}
+use Rattle.rec_csv.proofs.WalkFacts.{ends, plain_more, rest_more, known_more, known_past}
 use Rattle.rec_csv.proofs.plain_rows.fill_plain.Goals as goal
 use Rattle.rec_csv.proofs.plain_rows.fill_plain.Goals.{in-Some-slot, in_default-slot}
 
@@ -42,24 +43,24 @@ slots-preserved c =
 pub returns-else-not-are_plain-clause-fault : goal.returns-else-not-are_plain-clause-fault
 returns-else-not-are_plain-clause-fault c =
     let all : list_all is_plain_byte c.args.line.now ≡ true = (rw c.in-Some-left.is at c.slots.invariant.plain) ∙ (sym c.are_plain.ensures ∙ c.if-not-are_plain.false) in
-    let plain = plain_line c.args.line.now (sym c.begins_plain.ensures ∙ c.if-not-begins_plain.false) all in
+    let plain = both_true (sym c.begins_plain.ensures ∙ c.if-not-begins_plain.false) all in
     (ends c.args.columns.now c.args.slots.now c.args.line.now c.slots.values c.slots.verdict c.slots.slot-index plain c.requires.table (omega arith) c.slots.invariant.within c.slots.invariant.known).fault_is
 
 pub returns-else-not-are_plain-clause-before : goal.returns-else-not-are_plain-clause-before
 returns-else-not-are_plain-clause-before c =
     let all : list_all is_plain_byte c.args.line.now ≡ true = (rw c.in-Some-left.is at c.slots.invariant.plain) ∙ (sym c.are_plain.ensures ∙ c.if-not-are_plain.false) in
-    let plain = plain_line c.args.line.now (sym c.begins_plain.ensures ∙ c.if-not-begins_plain.false) all in
+    let plain = both_true (sym c.begins_plain.ensures ∙ c.if-not-begins_plain.false) all in
     (ends c.args.columns.now c.args.slots.now c.args.line.now c.slots.values c.slots.verdict c.slots.slot-index plain c.requires.table (omega arith) c.slots.invariant.within c.slots.invariant.known).before_is
 
 -- and without
 pub returns-in_default-left-clause-fault : goal.returns-in_default-left-clause-fault
 returns-in_default-left-clause-fault c =
     let all : list_all is_plain_byte c.args.line.now ≡ true = rw c.in_default-left.is at c.slots.invariant.plain in
-    let plain = plain_line c.args.line.now (sym c.begins_plain.ensures ∙ c.if-not-begins_plain.false) all in
+    let plain = both_true (sym c.begins_plain.ensures ∙ c.if-not-begins_plain.false) all in
     (ends c.args.columns.now c.args.slots.now c.args.line.now c.slots.values c.slots.verdict c.slots.slot-index plain c.requires.table (omega arith) c.slots.invariant.within c.slots.invariant.known).fault_is
 
 pub returns-in_default-left-clause-before : goal.returns-in_default-left-clause-before
 returns-in_default-left-clause-before c =
     let all : list_all is_plain_byte c.args.line.now ≡ true = rw c.in_default-left.is at c.slots.invariant.plain in
-    let plain = plain_line c.args.line.now (sym c.begins_plain.ensures ∙ c.if-not-begins_plain.false) all in
+    let plain = both_true (sym c.begins_plain.ensures ∙ c.if-not-begins_plain.false) all in
     (ends c.args.columns.now c.args.slots.now c.args.line.now c.slots.values c.slots.verdict c.slots.slot-index plain c.requires.table (omega arith) c.slots.invariant.within c.slots.invariant.known).before_is
