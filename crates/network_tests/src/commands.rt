@@ -1,8 +1,8 @@
 // `bench_core`: command lines over files in memory, at devices that fail. What the program answers over files on disk is
 // in the end-to-end suite.
-use crate::stored_files::stored_files;
+use crate::stored_files::failing_shelf;
 use bench_core::{Words, bench};
-use fx_io::{MemShelf, MemSink, SteadySink};
+use fx_io::{MemSink, SteadySink};
 use std::alloc::{AllocError, Global};
 use std::test::Fail;
 
@@ -63,11 +63,6 @@ fn words_of(alloc: Global, line: Line) -> Result<Words, AllocError> {
     Ok(words)
 }
 
-fn shelf_of(alloc: Global, failing: u64) -> Result<MemShelf, AllocError> {
-    let files = stored_files(alloc, &FILES)?;
-    Ok(MemShelf::new(alloc, files, vec![in alloc; failing]?))
-}
-
 fn sink_of(alloc: Global, failing: u64) -> Result<MemSink, AllocError> {
     Ok(MemSink::new(alloc, vec![in alloc; failing]?))
 }
@@ -81,7 +76,7 @@ fn answered(
     unwritten: u64,
 ) -> Result<(u8, MemSink, SteadySink), AllocError> {
     let words = words_of(alloc, line)?;
-    let mut shelf = shelf_of(alloc, unread)?;
+    let mut shelf = failing_shelf(alloc, &FILES, unread)?;
     let mut out = sink_of(alloc, unwritten)?;
     let mut err = SteadySink::new(alloc);
     let status = bench(alloc, &words, &mut shelf, &mut out, &mut err);

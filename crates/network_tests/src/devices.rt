@@ -1,9 +1,8 @@
 // `fx_io`: files in memory and on disk, and devices that fail at chosen calls.
 
-use crate::stored_files::stored_files;
+use crate::stored_files::{failing_shelf, stored_files};
 use fx_io::{
-    FileShelf, MemShelf, ReadAllFault, Shelf, ShelfFault, Sink, SinkFault, StdSink, SteadyShelf,
-    read_all,
+    FileShelf, ReadAllFault, Shelf, ShelfFault, Sink, SinkFault, StdSink, SteadyShelf, read_all,
 };
 use std::alloc::{AllocError, Global};
 use std::test::Fail;
@@ -21,18 +20,13 @@ const READS: [(&str, u64, &[u8], Option<ReadAllFault>); 5] = [
     ("full", 2, b"", Some(ReadAllFault::ReadFault)),
 ];
 
-fn shelf_of(alloc: Global, failing: u64) -> Result<MemShelf, AllocError> {
-    let files = stored_files(alloc, &FILES)?;
-    Ok(MemShelf::new(alloc, files, vec![in alloc; failing]?))
-}
-
 // What is read of a file in memory.
 fn read(
     alloc: Global,
     name: &str,
     failing: u64,
 ) -> Result<(Vec<u8>, Option<ReadAllFault>), AllocError> {
-    let mut shelf = shelf_of(alloc, failing)?;
+    let mut shelf = failing_shelf(alloc, &FILES, failing)?;
     match read_all(alloc, &mut shelf, name, 4) {
         Ok(bytes) => Ok((bytes, None)),
         Err(fault) => Ok((Vec::new(alloc), Some(fault))),

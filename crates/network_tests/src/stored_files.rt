@@ -1,6 +1,6 @@
-// Files in memory.
+// Files in memory, and a shelf of them that fails.
 
-use fx_io::Stored;
+use fx_io::{MemShelf, Stored};
 use std::alloc::{AllocError, Global};
 
 // The files of these names and texts.
@@ -15,4 +15,14 @@ pub(crate) fn stored_files(
         stored.push(Stored::new(name, bytes))?;
     }
     Ok(stored)
+}
+
+// A shelf of these files, whose call of this number fails.
+pub(crate) fn failing_shelf(
+    alloc: Global,
+    files: &[(&str, &str)],
+    failing: u64,
+) -> Result<MemShelf, AllocError> {
+    let files = stored_files(alloc, files)?;
+    Ok(MemShelf::new(alloc, files, vec![in alloc; failing]?))
 }
