@@ -1,8 +1,9 @@
 -- The value of each operation at three whole numbers, by the integers' own words.
 use Rattle.std.specs.Prelude.{◌≡◌, ℕ, ◌≤◌, ℤ, pos, ◌+ℤ◌, ◌-ℤ◌, ◌*ℤ◌, unsigned_abs, int_div}
 use Rattle.std.specs.Int.{int_min, int_max, w128}
-use Rattle.std.proofs.Common.{refl, sym, to_z, of_z}
+use Rattle.std.proofs.Common.{refl, sym}
 use Rattle.std.proofs.lemmas.Nat.{pow_pos}
+use Rattle.fx_core.proofs.WordSteps.{word_of}
 use Rattle.fx_core.specs.Rounding.{power}
 use Rattle.fx_routines.specs.declared.operation.ArithOp.TheVariants.{Add, Sub, AbsDiff, Abs, Mul, Div, MulDiv, MulShRight, DivShLeft, Limit, Min, Max, RateLimiter}
 use Rattle.mfx_arith.proofs.WholeNumbers.{plus-whole, minus-whole, absolute-whole, times-whole, lesser-whole, greater-whole}
@@ -64,4 +65,4 @@ rate_limiter_at shift x y z = sym (rounded-whole _ _ (rate_limiter-whole x y z))
 
 -- a number as a word that was passed
 abbrev pub word : ℤ → ℤ
-word z = to_z w128 (of_z w128 z)
+word z = word_of w128 z

@@ -1,5 +1,5 @@
 -- How the first part that fails a test is found, one part at a time.
-use Rattle.std.proofs.Common.{◌≡◌, ℕ, zero, suc, ◌+◌, ◌-◌, ◌<◌, ◌≤◌, Bool, true, false, cond, ◌&&◌, List, length, ℤ, pos, int_le, refl, sym, ap, ◌∙◌, arith, Option, Some, None, option_map, eq-or-lt_of_le, inl, inr, Fits, w32, Fits-le, Fits-lit, FitsSigned, to_z, of_z, w64}
+use Rattle.std.proofs.Common.{◌≡◌, ℕ, zero, suc, ◌+◌, ◌-◌, ◌<◌, ◌≤◌, Bool, true, false, cond, ◌&&◌, List, length, ℤ, pos, int_le, refl, sym, ap, ◌∙◌, arith, Option, Some, None, option_map, eq-or-lt_of_le, inl, inr, Fits, w32, Fits-le, Fits-lit, FitsSigned, w64}
 use Rattle.std.proofs.lemmas.Int.{to_z-of_z}
 use Rattle.net_model.specs.declared.wires.PartNo.{PartNo}
 use Rattle.net_model.specs.declared.wires.Item.{Item}
@@ -10,6 +10,7 @@ use Rattle.net_model.specs.declared.wires.Wire.{Wire}
 use Rattle.net_model.specs.Wires.{NetData, wire_at, parts_of}
 use Rattle.net_model.specs.Validity.{IsValid}
 use Rattle.net_model.proofs.ValidityFacts.{length-parts_of, length-valid}
+use Rattle.fx_core.proofs.WordSteps.{word_of}
 use Rattle.cert_rules.specs.declared.bounds.Bounds.{Bounds}
 use Rattle.cert_rules.specs.Certificates.{entry_of}
 use Rattle.cert_rules.specs.Rules.{is_allowed, rule_of}
@@ -117,7 +118,7 @@ inductive_none wires entries k found e is =
 -- ---- comparisons of words
 
 abbrev word : ℤ → ℤ
-word z = to_z w64 (of_z w64 z)
+word z = word_of w64 z
 
 pub all_three : (entry given : Bounds) → FitsSigned w64 entry.lo → FitsSigned w64 given.lo → FitsSigned w64 given.hi → FitsSigned w64 entry.hi → FitsSigned w64 given.err → FitsSigned w64 entry.err → int_le (word entry.lo) (word given.lo) ≡ true → int_le (word given.hi) (word entry.hi) ≡ true → int_le (word given.err) (word entry.err) ≡ (int_le entry.lo given.lo && int_le given.hi entry.hi && int_le given.err entry.err)
 all_three entry given f1 f2 f3 f4 f5 f6 p q =

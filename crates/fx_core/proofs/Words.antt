@@ -9,11 +9,12 @@ use Rattle.fx_core.specs.declared.quotient.Mode.{Mode}
 use Rattle.fx_core.specs.declared.quotient.Mode.TheVariants.{Zero, Floor, Near}
 use Rattle.fx_core.specs.Rounding.{IsLeastQuotientAbove, Rounds, ShiftRounds, least_quotient_above, power, rounded, shifted_rounded}
 use Rattle.fx_core.proofs.Integers.{next-*ℤ, previous-*ℤ}
+use Rattle.fx_core.proofs.WordSteps.{word_of}
 use Rattle.fx_core.proofs.RoundingLaws.{least_quotient_above_bounds, least_quotient_above_from_bounds, rounded_from_rounds, rounds-rounded, shift_rounds-shifted_rounded}
 
 -- a number as a word that was passed
 abbrev pub word : ℤ → ℤ
-word z = to_z w128 (of_z w128 z)
+word z = word_of w128 z
 
 -- what a function gives is the relation's number where it is the definition's
 pub rounds_of_value : (m m' : Mode) (n d r : ℤ) → pos 1 ≤ℤ d → m ≡ m' → r ≡ rounded m' (word n) (word d) → FitsSigned w128 n → FitsSigned w128 d → FitsSigned w128 r → Rounds m n d (word r)
