@@ -1,4 +1,5 @@
 pub mod Rounding
 pub mod Types
 pub mod Values
+pub mod Arguments
 pub mod FractionLaws

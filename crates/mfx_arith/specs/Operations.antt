@@ -1,10 +1,10 @@
 -- The operations: which variants each takes, and which arguments it has.
-use Rattle.std.specs.Prelude.{◌≡◌, ℤ, List, [], ◌∷◌}
+use Rattle.std.specs.Prelude.{◌≡◌, ℕ, ℤ, Bool, true, false, List, [], ◌∷◌, length}
 use Rattle.fx_core.specs.Types.{Holds, width_of}
 use Rattle.fx_core.specs.declared.word_type.Ty.{Ty}
 use Rattle.fx_core.specs.declared.word_type.Ty.TheVariants.{U8, S8, U16, S16, U32, S32}
 use Rattle.fx_routines.specs.declared.operation.ArithOp.{ArithOp}
-use Rattle.fx_routines.specs.declared.operation.ArithOp.TheVariants.{Abs, MulDiv, Limit, Min, Max, RateLimiter}
+use Rattle.fx_routines.specs.declared.operation.ArithOp.TheVariants.{Abs, Mod, MulDiv, Limit, Min, Max, RateLimiter}
 use Rattle.fx_routines.specs.declared.operation.Variant.{Variant}
 pub use Rattle.fx_routines.specs.Variants.{variant}
 
@@ -47,6 +47,15 @@ argument_types Min v = v.o ∷ v.o ∷ []
 argument_types Max v = v.o ∷ v.o ∷ []
 argument_types RateLimiter v = v.o ∷ v.o ∷ unsigned_of v.o ∷ []
 argument_types other v = v.x ∷ v.y ∷ []
+
+-- how many arguments an operation has, which is the same at all types
+abbrev pub arith_arity : ArithOp → ℕ
+arith_arity op = length (argument_types op (variant U8 U8 U8))
+
+-- an operation is smooth: it takes no remainder
+abbrev pub is_smooth_operation : ArithOp → Bool
+is_smooth_operation Mod = false
+is_smooth_operation other = true
 
 -- there is a number of each type, in their order; numbers past the types are not looked at
 abbrev pub AreHeld : List Ty → List ℤ → Type 0
