@@ -1,9 +1,12 @@
 #!/usr/bin/env bash
 # Prints how long `check` takes: on a network of 512 wires, and on texts that are all lines, at the limit of 2^20 bytes and at
-# half of it. It is no test. Figures are milliseconds of the best of ten runs, with the program's start in them.
+# half of it; and where valgrind is there, how many instructions it takes on chains of sums of 64 to 512 wires. It is no test.
+# Times are milliseconds of the best of ten runs, with the program's start in them: benchmarks/check.sh [PROGRAM].
 set -u
 top=$(cd "$(dirname "$0")/.." && pwd)
 program=${1:-$top/crates/bench_cli/out/bench_cli}
+if [ ! -x "$program" ]; then echo "there is no program at $program" >&2; exit 2; fi
+program=$(cd "$(dirname "$program")" && pwd)/$(basename "$program")
 work=$(mktemp -d) || exit 2
 trap 'rm -rf "$work"' EXIT
 cd "$work" || exit 2
@@ -31,3 +34,24 @@ best 'the start alone (no words)'
 best 'check of 512 wires, accepted' check wires.net wires.cert
 best '120,000 lines, refused at the last' check many.net wires.cert
 best '240,000 lines, refused at the last' check twice.net wires.cert
+
+source "$top/benchmarks/instructions.sh"
+if [ -z "$counted" ]; then exit; fi
+
+# chain WIRES: a network of an input and sums, each of the one above and the input; and its certificate
+chain() {
+  { echo 'net 1'; echo 'in w0 s32 0 1'; for ((i = 1; i < $1; i++)); do echo "wire w$i s32 = Mfx_Add_s32s32_s32 w$((i - 1)) w0"; done; echo "out w$(($1 - 1))"; } >chain.net
+  { echo 'cert 1'; for ((i = 0; i < $1; i++)); do echo "part w$i 0 $((i + 1)) 0"; done; } >chain.cert
+  if [ "$("$program" check chain.net chain.cert 2>&1)" != accepted ]; then echo "a chain of $1 wires isn't accepted" >&2; exit 2; fi
+}
+
+echo 'instructions of check, by callgrind, and how many more a wire than at half as many wires:'
+fewer=
+for wires in 64 128 256 512; do
+  chain "$wires"
+  took=$(instructions "$program" check chain.net chain.cert)
+  printf 'a chain of %3d wires %14d' "$wires" "$took"
+  if [ -n "$fewer" ]; then printf ' %10d' $(((took - fewer) / (wires / 2))); fi
+  printf '\n'
+  fewer=$took
+done

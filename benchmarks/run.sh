@@ -1,7 +1,8 @@
 #!/usr/bin/env bash
-# Prints how long `run` takes on a recording of a million rows, beside mawk and a plain C program that do the same work, and how
-# much memory it takes; and then on products and quotients of each width. It is no test. The turns are interleaved, and the figures
-# are those of the best, with each program's start in them: benchmarks/run.sh [PROGRAM [ROWS [TURNS]]].
+# Prints how long `run` takes on a recording of a million rows, beside mawk and a plain C program that do the same work, how many
+# instructions a row takes where valgrind is there, and how much memory it takes; and then on products and quotients of each width.
+# It is no test. The turns are interleaved, and the times are those of the best, with each program's start in them:
+# benchmarks/run.sh [PROGRAM [ROWS [TURNS]]].
 set -u
 top=$(cd "$(dirname "$0")/.." && pwd)
 program=${1:-$top/crates/bench_cli/out/bench_cli}
@@ -54,9 +55,29 @@ int main(int count, char **words) {
 }
 C
 
-run_bench() { "$program" run "$network" rows.csv; }
-run_mawk() { mawk -F, "$sums" rows.csv; }
-run_c() { ./sums rows.csv; }
+# What is run for each kind over a recording: the words, in `words`. With `run_KIND` it is run over the whole recording.
+words_of_bench() { words=("$program" run "$network" "$1"); }
+words_of_mawk() { words=(mawk -F, "$sums" "$1"); }
+words_of_c() { words=(./sums "$1"); }
+run_bench() { words_of_bench rows.csv; "${words[@]}"; }
+run_mawk() { words_of_mawk rows.csv; "${words[@]}"; }
+run_c() { words_of_c rows.csv; "${words[@]}"; }
+
+source "$top/benchmarks/instructions.sh"
+
+# instructions_a_row RECORDING KIND: of two beginnings of the recording, the difference in instructions over that in rows
+long=$((rows < 21000 ? rows : 21000))
+short=$((long / 21))
+instructions_a_row() {
+  local of_short of_long
+  head -n $((short + 1)) "$1" >short.csv
+  head -n $((long + 1)) "$1" >long.csv
+  "words_of_$2" short.csv
+  of_short=$(instructions "${words[@]}")
+  "words_of_$2" long.csv
+  of_long=$(instructions "${words[@]}")
+  echo $(((of_long - of_short) / (long - short)))
+}
 
 kinds=(bench)
 if command -v mawk >/dev/null; then kinds+=(mawk); else echo 'mawk is not installed, so it is left out'; fi
@@ -94,6 +115,11 @@ for kind in "${kinds[@]}"; do
   fi
   printf '\n'
 done
+
+if [ -n "$counted" ]; then
+  echo "instructions a row, by callgrind, of $short and $long rows:"
+  for kind in "${kinds[@]}"; do printf '%-6s %s\n' "$kind" "$(instructions_a_row rows.csv "$kind")"; done
+fi
 
 # The greatest memory that a process held, in KiB: what GNU time tells, or else what the kernel told last before its end.
 peak_by_time() { /usr/bin/time -f %M -o peak "$@" >/dev/null && tail -n 1 peak; }
@@ -147,28 +173,33 @@ products='NR == 1 { print "p,q"; next } {
   printf "%.0f,%.0f\n", p + 0, q + 0
 }'
 
-run_products() { "$program" run products.net numbers.csv; }
+words_of_products() { words=("$program" run products.net "$1"); }
+words_of_thirds() { words=("$program" run thirds.net "$1"); }
+words_of_sums() { words=("$program" run sums.net "$1"); }
+run_products() { words_of_products numbers.csv; "${words[@]}"; }
 run_products_in_mawk() { mawk -F, -v least="$least_word" -v greatest="$greatest_word" "$products" numbers.csv; }
-run_thirds() { "$program" run thirds.net numbers.csv; }
-run_sums() { "$program" run sums.net numbers.csv; }
+run_thirds() { words_of_thirds numbers.csv; "${words[@]}"; }
+run_sums() { words_of_sums numbers.csv; "${words[@]}"; }
 
-# row TITLE KIND [KIND]: the nanoseconds of a row of the recording, by bench and by mawk; and whether they print the same
+# row TITLE KIND [KIND]: the nanoseconds of a row of the recording, by bench and by mawk, and the instructions of bench; and
+# whether they print the same
 row() {
-  local title=$1 kind by_mawk=-
+  local title=$1 kind by_mawk=- instructions=-
   shift
   for kind in "$@"; do
     "run_$kind" >"$kind.out" 2>"$kind.err" || { echo "$title: $kind ended with status $?: $(head -n 1 "$kind.err")" >&2; exit 2; }
   done
   take_turns "$@"
+  if [ -n "$counted" ]; then instructions=$(instructions_a_row numbers.csv "$1"); fi
   if [ $# = 2 ]; then
     by_mawk=$((least[$2] / rows))
     if ! cmp -s "$1.out" "$2.out"; then by_mawk+='; they DIFFER'; fi
   fi
-  printf '%-32s %6d %6s\n' "$title" $((least[$1] / rows)) "$by_mawk"
+  printf '%-32s %13s %6d %6s\n' "$title" "$instructions" $((least[$1] / rows)) "$by_mawk"
 }
 
-echo "nanoseconds a row, of $rows rows of two words:"
-printf '%-32s %6s %6s\n' '' bench mawk
+echo "instructions of bench a row, and nanoseconds a row, of $rows rows of two words:"
+printf '%-32s %13s %6s %6s\n' '' instructions bench mawk
 for bits in 8 16 32; do
   numbers "$bits"
   word=s$bits

@@ -2,7 +2,7 @@
 # Prints how long `check` takes to read a network's text at the limit of 2^20 bytes, at half of it and at a quarter: const lines, one
 # in about 2,048 bytes, and comments between them. It is no test. Each text is good, and no certificate is there, so what is timed
 # is the reading alone, and the time on a text of three lines is taken off. A turn is twenty starts; the turns are interleaved, and
-# the figures are a start's in the best turn: benchmarks/text.sh [PROGRAM [TURNS]].
+# the times are a start's in the best turn. Where valgrind is there, instructions are counted too: benchmarks/text.sh [PROGRAM [TURNS]].
 set -u
 top=$(cd "$(dirname "$0")/.." && pwd)
 program=${1:-$top/crates/bench_cli/out/bench_cli}
@@ -59,4 +59,13 @@ for size in "${sizes[@]}"; do
   beyond=$((least[$size] > least[small] ? least[$size] - least[small] : 0))
   printf '%8d bytes, %3d const lines, %5d lines: %s, %d.%02d ns a byte\n' "$size" "$(grep -c '^const' "$size.net")" \
     "$(wc -l <"$size.net")" "$(milliseconds "$beyond")" $((beyond / size)) $((100 * beyond / size % 100))
+done
+
+source "$top/benchmarks/instructions.sh"
+if [ -z "$counted" ]; then exit; fi
+of_small=$(instructions "$program" check small.net nowhere)
+echo "instructions, by callgrind; a text of three lines takes $of_small, and beyond it"
+for size in "${sizes[@]}"; do
+  beyond=$(($(instructions "$program" check "$size.net" nowhere) - of_small))
+  printf '%8d bytes: %d, %d.%02d a byte\n' "$size" "$beyond" $((beyond / size)) $((100 * beyond / size % 100))
 done
