@@ -12,7 +12,7 @@ use Rattle.net_model.specs.Wires.{wire_at, parts_of, place_in, kind_least, kind_
 use Rattle.net_model.proofs.ValidityFacts.{has_role-value}
 use Rattle.cert_rules.specs.declared.bounds.Bounds.{Bounds}
 use Rattle.cert_rules.specs.Certificates.{IsWithin, entry_of, no_bounds}
-use Rattle.cert_rules.specs.Rules.{proposed, rule_of, may_fail, is_allowed, error_cap}
+use Rattle.cert_rules.specs.Rules.{proposed, rule_of, has_no_rule, allowed_of, is_allowed, error_cap}
 use Rattle.cert_rules.specs.Acceptance.{Accepts, is_inductive_at, is_inductive_entry, lies_inside, starts_inside, start_of}
 use Rattle.cert_rules.proofs.Places.{has_place, part_of}
 
@@ -36,10 +36,9 @@ record Given (fails allowed : Bool) (b entry : Bounds) : Type 0 where
   permits : allowed ≡ true
   inside : IsInside b entry
 
-given_of : (fails allowed : Bool) (b entry : Bounds) → IsTrue (lies_inside (if fails then None else (if allowed then Some b else None)) entry) → Given fails allowed b entry
-given_of true allowed b entry h = absurd (false≢true h)
-given_of false false b entry h = absurd (false≢true h)
-given_of false true b entry h =
+given_if : (allowed : Bool) (b entry : Bounds) → IsTrue (lies_inside (if allowed then Some b else None) entry) → Given false allowed b entry
+given_if false b entry h = absurd (false≢true h)
+given_if true b entry h =
     let rest = and_parts (int_le entry.lo b.lo && int_le b.hi entry.hi) (int_le b.err entry.err) h in
     let range = and_parts (int_le entry.lo b.lo) (int_le b.hi entry.hi) rest.0 in
     record {
@@ -48,13 +47,17 @@ given_of false true b entry h =
       inside = record { low = int_le-true entry.lo b.lo range.0; high = int_le-true b.hi entry.hi range.1; error = int_le-true b.err entry.err rest.1 };
     }
 
+given_of : (fails : Bool) (kind : Kind) (b entry : Bounds) → IsTrue (lies_inside (allowed_of kind Value (if fails then None else Some b)) entry) → Given fails (is_allowed kind Value b) b entry
+given_of true kind b entry h = absurd (false≢true h)
+given_of false kind b entry h = given_if (is_allowed kind Value b) b entry h
+
 -- the bounds of a wire's value that its rule proposes, from the entries
 abbrev pub proposal : List Wire → List Bounds → ℕ → Bounds
 proposal wires entries i = proposed wires (wire_at wires i).kind (wire_at wires i).item (λ w. entry_of wires entries w Value)
 
 -- the entry of a wire's value: it gets bounds, and these lie in the kind and within the entry
 pub record EntryHolds (wires : List Wire) (entries : List Bounds) (i : ℕ) : Type 0 where
-  pub ruled : may_fail (wire_at wires i).item (λ w. entry_of wires entries w Value) ≡ false
+  pub ruled : has_no_rule (wire_at wires i).item (λ w. entry_of wires entries w Value) ≡ false
   pub least : kind_least (wire_at wires i).kind ≤ℤ (proposal wires entries i).lo
   pub greatest : (proposal wires entries i).hi ≤ℤ kind_greatest (wire_at wires i).kind
   pub inside : IsInside (proposal wires entries i) (entry_of wires entries i Value)
@@ -72,11 +75,11 @@ allowed_ends kind b h =
     let ends = and_parts (int_le (kind_least kind) b.lo) (int_le b.hi (kind_greatest kind)) range in
     (int_le-true (kind_least kind) b.lo ends.0, int_le-true b.hi (kind_greatest kind) ends.1)
 
-rule_gives : (wires : List Wire) (entries : List Bounds) (i : ℕ) → Accepts wires entries → i < length wires → Given (may_fail (wire_at wires i).item (λ w. entry_of wires entries w Value)) (is_allowed (wire_at wires i).kind Value (proposal wires entries i)) (proposal wires entries i) (entry_of wires entries i Value)
+rule_gives : (wires : List Wire) (entries : List Bounds) (i : ℕ) → Accepts wires entries → i < length wires → Given (has_no_rule (wire_at wires i).item (λ w. entry_of wires entries w Value)) (is_allowed (wire_at wires i).kind Value (proposal wires entries i)) (proposal wires entries i) (entry_of wires entries i Value)
 unfolding rule_of
 rule_gives wires entries i accepts h =
     let entry = entry_of wires entries i Value in
-    given_of _ _ (proposal wires entries i) entry (and_parts (starts_inside (start_of (wire_at wires i).item Value) entry) (lies_inside (rule_of wires i Value (entry_of wires entries)) entry) (inductive_entry wires entries i accepts h)).1
+    given_of _ (wire_at wires i).kind (proposal wires entries i) entry (and_parts (starts_inside (start_of (wire_at wires i).item Value) entry) (lies_inside (rule_of wires i Value (entry_of wires entries)) entry) (inductive_entry wires entries i accepts h)).1
 
 pub entry_holds : (wires : List Wire) (entries : List Bounds) (i : ℕ) → Accepts wires entries → i < length wires → EntryHolds wires entries i
 entry_holds wires entries i accepts h =

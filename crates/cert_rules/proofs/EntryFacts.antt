@@ -1,4 +1,4 @@
--- Where the entry of a wire stands, and how small sound entries are.
+-- Where the entry of a wire stands, and how small allowed entries are.
 use Rattle.std.proofs.Common.{◌≡◌, ℕ, ◌<◌, ◌≤◌, ◌^◌, Bool, true, ◌&&◌, List, length, get_or, ℤ, pos, negsuc, ◌≤ℤ◌, int_le, int_lt, sym, ap, ◌∙◌, subst, FitsSigned, to_z, of_z, w64}
 use Rattle.std.proofs.lemmas.Bool.{and_parts}
 use Rattle.std.proofs.lemmas.Int.{to_z-of_z}
@@ -18,8 +18,8 @@ use Rattle.net_model.proofs.ValidityFacts.{get_or-parts_of, length-parts_of, pla
 use Rattle.cert_rules.specs.declared.bounds.Bounds.{Bounds}
 use Rattle.cert_rules.specs.Certificates.{no_bounds, entry_of}
 use Rattle.cert_rules.specs.Rules.{is_allowed, part_least, part_greatest}
-use Rattle.cert_rules.specs.Acceptance.{is_sound_at, part_at, entry_at}
-use Rattle.cert_rules.specs.Entries.{AreSound, IsSmall}
+use Rattle.cert_rules.specs.Acceptance.{is_allowed_at, part_at, entry_at}
+use Rattle.cert_rules.specs.Entries.{AreAllowed, IsSmall}
 
 -- ---- the entry of a wire's value has the wire's number
 
@@ -27,7 +27,7 @@ pub entry_of-value : (wires : List Wire) (entries : List Bounds) (w : ℕ) → w
 unfolding entry_of
 entry_of-value wires entries w h = ap (λ k. get_or entries k no_bounds) (place_in-parts_of wires w h)
 
--- ---- sound entries are small
+-- ---- allowed entries are small
 
 least_of-low : (t : Ty) → negsuc 2147483647 ≤ℤ least_of t
 least_of-low U8 = record { le = tt }
@@ -71,32 +71,32 @@ small_from_tests kind Value b h order positive =
       near = int_lt-true b.err (pos (2 ^ 40)) t.2;
     }
 
-pub small_from_sound : (wires : List Wire) (entries : List Bounds) (k : ℕ) → is_sound_at wires entries k ≡ true → IsSmall (entry_at entries k)
-unfolding is_sound_at
-small_from_sound wires entries k h =
+pub small_from_allowed : (wires : List Wire) (entries : List Bounds) (k : ℕ) → is_allowed_at wires entries k ≡ true → IsSmall (entry_at entries k)
+unfolding is_allowed_at
+small_from_allowed wires entries k h =
     let t = three_tests _ _ _ h in
     small_from_tests _ _ (entry_at entries k) t.0 t.1 t.2
 
-pub small_entry : (wires : List Wire) (entries : List Bounds) → AreSound wires entries → (w : ℕ) → w < length wires → IsSmall (entry_at entries w)
-small_entry wires entries sound w h =
-    small_from_sound wires entries w (sound w (rw (length-parts_of wires) h))
+pub small_entry : (wires : List Wire) (entries : List Bounds) → AreAllowed wires entries → (w : ℕ) → w < length wires → IsSmall (entry_at entries w)
+small_entry wires entries allowed w h =
+    small_from_allowed wires entries w (allowed w (rw (length-parts_of wires) h))
 
--- a sound entry isn't below its wire's kind
+-- a allowed entry isn't below its wire's kind
 low_from_tests : (kind : Kind) (role : Role) (b : Bounds) → is_allowed kind role b ≡ true → kind_least kind ≤ℤ b.lo
 unfolding is_allowed
 low_from_tests kind Value b h =
     let t = three_tests (int_le (kind_least kind) b.lo) _ _ h in
     int_le-true (kind_least kind) b.lo t.0
 
-low_from_sound : (wires : List Wire) (entries : List Bounds) (k : ℕ) → is_sound_at wires entries k ≡ true → kind_least (wire_at wires (part_at wires k).wire.0).kind ≤ℤ (entry_at entries k).lo
-unfolding is_sound_at
-low_from_sound wires entries k h =
+low_from_allowed : (wires : List Wire) (entries : List Bounds) (k : ℕ) → is_allowed_at wires entries k ≡ true → kind_least (wire_at wires (part_at wires k).wire.0).kind ≤ℤ (entry_at entries k).lo
+unfolding is_allowed_at
+low_from_allowed wires entries k h =
     let t = three_tests _ _ _ h in
     low_from_tests _ _ (entry_at entries k) t.0
 
-pub entry_low : (wires : List Wire) (entries : List Bounds) → AreSound wires entries → (w : ℕ) → w < length wires → kind_least (wire_at wires w).kind ≤ℤ (entry_of wires entries w Value).lo
-entry_low wires entries sound w h =
-    let low = low_from_sound wires entries w (sound w (rw (length-parts_of wires) h)) in
+pub entry_low : (wires : List Wire) (entries : List Bounds) → AreAllowed wires entries → (w : ℕ) → w < length wires → kind_least (wire_at wires w).kind ≤ℤ (entry_of wires entries w Value).lo
+entry_low wires entries allowed w h =
+    let low = low_from_allowed wires entries w (allowed w (rw (length-parts_of wires) h)) in
     let at_wire : kind_least (wire_at wires w).kind ≤ℤ (entry_at entries w).lo = subst (λ (p : Part). kind_least (wire_at wires p.wire.0).kind ≤ℤ (entry_at entries w).lo) (get_or-parts_of wires w h) low in
     rw (entry_of-value wires entries w h) at_wire
 

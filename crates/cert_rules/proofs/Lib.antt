@@ -15,7 +15,7 @@ pub mod ArithHulls
 pub mod ArithValues
 pub mod ArithCornerValues
 pub mod ArithSizes
-pub mod ReachWords
+pub mod MagnitudeWords
 pub mod ArithCornerHulls
 pub mod ArithDivisorEnds
 pub mod ArithRoutines

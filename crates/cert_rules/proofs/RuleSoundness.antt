@@ -1,13 +1,13 @@
 -- The rule of each wire is sound: what its equation makes is within the bounds that its rule proposes, and saturation
 -- leaves it alone where these lie between the ends of its kind.
-use Rattle.std.specs.Prelude.{◌≡◌, ℕ, Bool, true, false, not, ◌||◌, List, [], get_or, ℤ, pos, ◌≤ℤ◌, Option, Some, None, IfSome}
+use Rattle.std.specs.Prelude.{◌≡◌, ℕ, Bool, true, false, not, ◌||◌, List, [], get_or, ℤ, pos, ◌≤ℤ◌, Option, Some, None}
 use Rattle.std.proofs.Common.{refl, true≢false}
-use Rattle.fx_fraction.specs.Fraction.{Fraction, whole, over, distance, is_zero, AtMost, Same}
+use Rattle.fx_fraction.specs.Fraction.{Fraction, whole, over, distance, AtMost, Same}
 use Rattle.fx_fraction.proofs.Order.{AtMost_trans, AtMost_of-Same}
 use Rattle.fx_fraction.proofs.Distances.{distance_self}
 use Rattle.fx_fraction.proofs.WholeNumbers.{int_le_refl}
 use Rattle.fx_core.specs.declared.quotient.Mode.TheVariants.{Zero}
-use Rattle.fx_core.specs.Values.{rounded_fraction, unsaturated}
+use Rattle.fx_core.specs.Values.{Divides, rounded_fraction, unsaturated}
 use Rattle.fx_core.proofs.TypeLaws.{saturated_to-between}
 use Rattle.fx_routines.specs.declared.operation.ArithOp.{ArithOp}
 use Rattle.fx_routines.specs.declared.operation.Variant.{Variant}
@@ -27,13 +27,14 @@ use Rattle.net_meaning.specs.Cells.{Cell, plain}
 use Rattle.net_meaning.specs.Blocks.{points_of, formula, state_formula, quotient_of, machine, machine_state_of, machine_value_of, exact, exact_cell, state_least, state_greatest}
 use Rattle.net_meaning.specs.Runs.{equation_of}
 use Rattle.net_meaning.specs.Promises.{KeepsRange}
+use Rattle.mfx_arith.specs.Operations.{is_smooth_operation}
 use Rattle.cert_rules.specs.declared.bounds.Bounds.{Bounds}
 use Rattle.cert_rules.specs.Certificates.{IsWithin}
 use Rattle.cert_rules.specs.ArithRules.{arith_bounds, arith_may_divide_by_zero}
-use Rattle.cert_rules.specs.ArithSoundness.{HasUnsignedStep, KeepsRule, has_rule}
+use Rattle.cert_rules.specs.ArithSoundness.{HasUnsignedStep, KeepsRule}
 use Rattle.cert_rules.specs.ScaledRules.{scaled_bounds}
 use Rattle.cert_rules.specs.ScaledSoundness.{FormKeepsRule}
-use Rattle.cert_rules.specs.Rules.{arguments_of, proposed, block_may_fail, may_fail}
+use Rattle.cert_rules.specs.Rules.{arguments_of, proposed, block_has_no_rule, has_no_rule}
 use Rattle.cert_rules.proofs.ArithSoundnessProof.{arith_rules_are_sound}
 use Rattle.cert_rules.proofs.ScaledSoundnessProof.{scaled_rules_are_sound}
 
@@ -70,17 +71,17 @@ neither_fails true false h = (refl, refl)
 neither_fails false divides h = absurd (true≢false h)
 
 -- an operation keeps its rule where its block gets bounds
-pub arith_keeps : (op : ArithOp) (v : Variant) (x y z : WireNo) (sh : ℕ) (known : ℕ → Bounds) (m : ℕ → ℤ) (e : ℕ → Fraction) → block_may_fail (Arith op v x y z sh) known ≡ false → HasUnsignedStep op (arguments_of (Arith op v x y z sh) known) → ((p : ℕ) → IsWithin (known (argument_of (Arith op v x y z sh) p)) (m p) (e p)) → KeepsRule op sh (arguments_of (Arith op v x y z sh) known) m e
+pub arith_keeps : (op : ArithOp) (v : Variant) (x y z : WireNo) (sh : ℕ) (known : ℕ → Bounds) (m : ℕ → ℤ) (e : ℕ → Fraction) → block_has_no_rule (Arith op v x y z sh) known ≡ false → HasUnsignedStep op (arguments_of (Arith op v x y z sh) known) → ((p : ℕ) → IsWithin (known (argument_of (Arith op v x y z sh) p)) (m p) (e p)) → KeepsRule op sh (arguments_of (Arith op v x y z sh) known) m e
 arith_keeps op v x y z sh known m e ruled step given =
-    let both = neither_fails (has_rule op) (arith_may_divide_by_zero op (arguments_of (Arith op v x y z sh) known)) ruled in
+    let both = neither_fails (is_smooth_operation op) (arith_may_divide_by_zero op (arguments_of (Arith op v x y z sh) known)) ruled in
     arith_rules_are_sound op both.0 sh (arguments_of (Arith op v x y z sh) known) m e both.1 step (λ p _. given p)
 
 -- and so does a form with binary points
-pub form_keeps : (op : ScaledOp) (v : Variant) (x y : WireNo) (points : Points) (known : ℕ → Bounds) (m : ℕ → ℤ) (e : ℕ → Fraction) → block_may_fail (Scaled op v x y) known ≡ false → ((p : ℕ) → IsWithin (known (argument_of (Scaled op v x y) p)) (m p) (e p)) → FormKeepsRule op points (arguments_of (Scaled op v x y) known) m e
+pub form_keeps : (op : ScaledOp) (v : Variant) (x y : WireNo) (points : Points) (known : ℕ → Bounds) (m : ℕ → ℤ) (e : ℕ → Fraction) → block_has_no_rule (Scaled op v x y) known ≡ false → ((p : ℕ) → IsWithin (known (argument_of (Scaled op v x y) p)) (m p) (e p)) → FormKeepsRule op points (arguments_of (Scaled op v x y) known) m e
 form_keeps op v x y points known m e divides given = scaled_rules_are_sound op points (arguments_of (Scaled op v x y) known) m e divides (λ p _. given p)
 
 -- where no divisor is 0 the value before saturation is the formula rounded
-not_by_zero : (least greatest : ℤ) (q : Option (Fraction × Fraction)) (f : Fraction) → IfSome q (λ q. is_zero q.1 ≡ false) → unsaturated Zero least greatest q f ≡ rounded_fraction Zero f
+not_by_zero : (least greatest : ℤ) (q : Option (Fraction × Fraction)) (f : Fraction) → Divides q → unsaturated Zero least greatest q f ≡ rounded_fraction Zero f
 not_by_zero least greatest None f h = refl
 not_by_zero least greatest (Some q) f h = rw h refl
 
@@ -94,7 +95,7 @@ abbrev pub BlockHasUnsignedStep : Block → (ℕ → Bounds) → Type 0
 BlockHasUnsignedStep (Arith op v x y z sh) known = HasUnsignedStep op (arguments_of (Arith op v x y z sh) known)
 BlockHasUnsignedStep (Scaled op v x y) known = Unit {0}
 
-pub block_is_sound : (wires : List Wire) (kind : Kind) (b : Block) (known : ℕ → Bounds) (m : ℕ → ℕ → ℤ) (e : ℕ → ℕ → Fraction) (before : Cell ℤ) (past : Cell Fraction) → block_may_fail b known ≡ false → BlockHasUnsignedStep b known → ((p : ℕ) → IsWithin (known (argument_of b p)) (m p 0) (e p 0)) → IsSound kind (proposed wires kind (OfBlock b) known) (machine.of_block wires kind b m before) (exact.of_block wires kind b e past)
+pub block_is_sound : (wires : List Wire) (kind : Kind) (b : Block) (known : ℕ → Bounds) (m : ℕ → ℕ → ℤ) (e : ℕ → ℕ → Fraction) (before : Cell ℤ) (past : Cell Fraction) → block_has_no_rule b known ≡ false → BlockHasUnsignedStep b known → ((p : ℕ) → IsWithin (known (argument_of b p)) (m p 0) (e p 0)) → IsSound kind (proposed wires kind (OfBlock b) known) (machine.of_block wires kind b m before) (exact.of_block wires kind b e past)
 unfolding machine exact machine_state_of machine_value_of exact_cell state_formula quotient_of formula proposed
 block_is_sound wires kind (Arith op v x y z sh) known m e before past ruled step given =
     let keeps = arith_keeps op v x y z sh known (λ p. m p 0) (λ p. e p 0) ruled step given in
@@ -128,7 +129,7 @@ ItemHasUnsignedStep (Input lo hi) known = Unit {0}
 ItemHasUnsignedStep (Const value) known = Unit {0}
 ItemHasUnsignedStep (OfBlock b) known = BlockHasUnsignedStep b known
 
-pub rule_is_sound : (wires : List Wire) (rows : List (List ℤ)) (i : ℕ) (item : Item) (known : ℕ → Bounds) (m : ℕ → ℕ → Cell ℤ) (e : ℕ → ℕ → Cell Fraction) → KeepsRange item (get_or (get_or rows 0 []) (input_place wires i) (pos 0)) → may_fail item known ≡ false → ItemHasUnsignedStep item known → ArgumentsWithin item known m e → IsSound (wire_at wires i).kind (proposed wires (wire_at wires i).kind item known) (equation_of machine wires rows m i item) (equation_of exact wires rows e i item)
+pub rule_is_sound : (wires : List Wire) (rows : List (List ℤ)) (i : ℕ) (item : Item) (known : ℕ → Bounds) (m : ℕ → ℕ → Cell ℤ) (e : ℕ → ℕ → Cell Fraction) → KeepsRange item (get_or (get_or rows 0 []) (input_place wires i) (pos 0)) → has_no_rule item known ≡ false → ItemHasUnsignedStep item known → ArgumentsWithin item known m e → IsSound (wire_at wires i).kind (proposed wires (wire_at wires i).kind item known) (equation_of machine wires rows m i item) (equation_of exact wires rows e i item)
 unfolding equation_of proposed
 rule_is_sound wires rows i (Input lo hi) known m e keeps ruled step given = plain_is_sound _ lo hi _ keeps.0 keeps.1
 rule_is_sound wires rows i (Const value) known m e keeps ruled step given = plain_is_sound _ value value value (int_le_refl value) (int_le_refl value)

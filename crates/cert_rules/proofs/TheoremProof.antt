@@ -21,7 +21,7 @@ use Rattle.net_meaning.proofs.Arguments.{ArgumentsEarlier, IsOrdered, arguments_
 use Rattle.net_meaning.proofs.Equations.{by_smaller}
 use Rattle.cert_rules.specs.declared.bounds.Bounds.{Bounds}
 use Rattle.cert_rules.specs.Certificates.{IsWithin, entry_of, held_by}
-use Rattle.cert_rules.specs.Rules.{may_fail}
+use Rattle.cert_rules.specs.Rules.{has_no_rule}
 use Rattle.cert_rules.specs.Acceptance.{Accepts}
 use Rattle.cert_rules.specs.Theorem.{CertificatesHold}
 use Rattle.cert_rules.proofs.RuleSoundness.{IsSound, ArgumentsWithin, ItemHasUnsignedStep, arith_keeps, form_keeps, rule_is_sound}
@@ -31,7 +31,7 @@ use Rattle.cert_rules.proofs.AcceptedEntries.{within_wider, proposal, EntryHolds
 -- ---- one wire
 
 -- where a wire's value gets bounds, no divisor is 0
-divides_well : (wires : List Wire) (w : Wire) (item : Item) (known : ℕ → Bounds) (m : ℕ → ℕ → Cell ℤ) (e : ℕ → ℕ → Cell Fraction) → may_fail item known ≡ false → ItemHasUnsignedStep item known → ArgumentsWithin item known m e → DividesWell wires w item m e
+divides_well : (wires : List Wire) (w : Wire) (item : Item) (known : ℕ → Bounds) (m : ℕ → ℕ → Cell ℤ) (e : ℕ → ℕ → Cell Fraction) → has_no_rule item known ≡ false → ItemHasUnsignedStep item known → ArgumentsWithin item known m e → DividesWell wires w item m e
 unfolding quotient_of
 divides_well wires w (Input lo hi) known m e h step given = tt
 divides_well wires w (Const value) known m e h step given = tt
@@ -104,7 +104,7 @@ rows_hold : (net : NetData) (entries : List Bounds) → IsValid net → Accepts 
 rows_hold net entries valid accepts rows m e keeps run run' j i h l =
     row_holds net.wires entries (drop j rows) (from_row machine m j) (from_row exact e j)
     (λ n k. entry_holds net.wires entries n accepts k)
-    (λ n k. unsigned_step net entries n (wire_at net.wires n).item valid accepts.sound k refl)
+    (λ n k. unsigned_step net entries n (wire_at net.wires n).item valid accepts.allowed k refl)
     (arguments_earlier net valid)
     (λ n k. subst (λ row. KeepsRange (wire_at net.wires n).item (get_or row (input_place net.wires n) (pos 0))) (sym (newest_row rows j)) ((keeps j h).ranges n k))
     (λ n k. meets_at machine net.wires rows m run j n h k)

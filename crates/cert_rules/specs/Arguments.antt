@@ -11,9 +11,9 @@ use Rattle.net_model.specs.declared.wires.PartNo.{PartNo}
 use Rattle.net_model.specs.declared.wires.Wire.{Wire}
 use Rattle.net_model.specs.Wires.{NetData, wire_at, argument_of, parts_of, same_role}
 use Rattle.net_model.specs.Validity.{IsValid}
+use Rattle.mfx_arith.specs.Operations.{arith_arity}
+use Rattle.mfx_scaled.specs.Operations.{scaled_arity}
 use Rattle.cert_rules.specs.declared.bounds.Bounds.{Bounds}
-use Rattle.cert_rules.specs.ArithRules.{arith_arity}
-use Rattle.cert_rules.specs.ScaledRules.{scaled_arity}
 use Rattle.cert_rules.specs.Rules.{rule_of}
 use Rattle.cert_rules.specs.Acceptance.{part_at}
 

@@ -28,7 +28,7 @@ pub use arguments::{argument, rules_read_their_arguments};
 pub use arith_laws::law_of_arith_rules;
 pub use bounds::Bounds;
 pub use certificate::{BadBounds, Certificate};
-pub use checking::{first_unsound, rejected_part};
+pub use checking::{first_disallowed, rejected_part};
 pub use limits::allowed;
 pub use promise::{acceptance_is_exact, certificates_hold};
 pub use ruling::rule;

@@ -3,7 +3,7 @@
 ghost use Rattle.std.specs.Prelude.{◌<◌, ◌^◌, length};
 
 use crate::networks::network;
-use cert_rules::{BadBounds, Bounds, Certificate, argument, first_unsound, rule};
+use cert_rules::{BadBounds, Bounds, Certificate, argument, first_disallowed, rule};
 use net_model::{Network, PartNo};
 use std::alloc::{AllocError, Global};
 use std::test::Fail;
@@ -50,13 +50,13 @@ fn entries(alloc: Global, numbers: &[Numbers]) -> Result<Vec<Bounds>, AllocError
     Ok(entries)
 }
 
-// What a part's rule gives, where there is an entry for each part and all are sound.
+// What a part's rule gives, where there is an entry for each part and all are allowed.
 fn rule_over(net: &Network, entries: &[Bounds], part: u32) -> Result<Option<Bounds>, Fail> {
     let parts = net.parts().len();
-    if entries.len() == parts && (part as usize) < parts && first_unsound(net, entries).is_none() {
+    if entries.len() == parts && (part as usize) < parts && first_disallowed(net, entries).is_none() {
         Ok(rule(net, PartNo(part), entries))
     } else {
-        Err("an entry is missing or not sound")?
+        Err("an entry is missing or not allowed")?
     }
 }
 
