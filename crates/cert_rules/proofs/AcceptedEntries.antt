@@ -1,5 +1,5 @@
 -- What an accepted certificate says of the entry of a wire.
-use Rattle.std.specs.Prelude.{◌≡◌, ℕ, ◌<◌, Bool, true, false, ◌&&◌, List, length, get_or, ℤ, ◌≤ℤ◌, int_le, int_lt, IsTrue, Some, None, if◌then◌else◌}
+use Rattle.std.specs.Prelude.{◌≡◌, ℕ, ◌<◌, Bool, true, false, ◌&&◌, List, length, get_or, ℤ, ◌≤ℤ◌, int_le, IsTrue, Some, None, if◌then◌else◌}
 use Rattle.std.proofs.Common.{refl, subst, arith}
 use Rattle.std.proofs.lemmas.Bool.{and_parts, false≢true}
 use Rattle.fx_fraction.specs.Fraction.{Fraction, whole, over, distance}
@@ -12,8 +12,9 @@ use Rattle.net_model.specs.Wires.{wire_at, parts_of, place_in, kind_least, kind_
 use Rattle.net_model.proofs.ValidityFacts.{has_role-value}
 use Rattle.cert_rules.specs.declared.bounds.Bounds.{Bounds}
 use Rattle.cert_rules.specs.Certificates.{IsWithin, entry_of, no_bounds}
-use Rattle.cert_rules.specs.Rules.{proposed, rule_of, has_no_rule, allowed_of, is_allowed, error_cap}
+use Rattle.cert_rules.specs.Rules.{proposed, rule_of, has_no_rule, allowed_of, is_allowed}
 use Rattle.cert_rules.specs.Acceptance.{Accepts, is_inductive_at, is_inductive_entry, lies_inside, starts_inside, start_of}
+use Rattle.cert_rules.proofs.EntryFacts.{are_between}
 use Rattle.cert_rules.proofs.Places.{has_place, part_of}
 
 -- bounds lie within others
@@ -68,13 +69,6 @@ inductive_entry wires entries i accepts h =
     let p = has_place wires i Value h (has_role-value (wire_at wires i).item) in
     subst (λ part. IsTrue (is_inductive_entry wires entries part (get_or entries (place_in i Value (parts_of wires)) no_bounds))) p.there (accepts.inductive (place_in i Value (parts_of wires)) p.below)
 
-allowed_ends : (kind : Kind) (b : Bounds) → is_allowed kind Value b ≡ true → (kind_least kind ≤ℤ b.lo) × (b.hi ≤ℤ kind_greatest kind)
-unfolding is_allowed
-allowed_ends kind b h =
-    let range = (and_parts (int_le (kind_least kind) b.lo && int_le b.hi (kind_greatest kind)) (int_lt b.err (error_cap Value)) h).0 in
-    let ends = and_parts (int_le (kind_least kind) b.lo) (int_le b.hi (kind_greatest kind)) range in
-    (int_le-true (kind_least kind) b.lo ends.0, int_le-true b.hi (kind_greatest kind) ends.1)
-
 rule_gives : (wires : List Wire) (entries : List Bounds) (i : ℕ) → Accepts wires entries → i < length wires → Given (has_no_rule (wire_at wires i).item (λ w. entry_of wires entries w Value)) (is_allowed (wire_at wires i).kind Value (proposal wires entries i)) (proposal wires entries i) (entry_of wires entries i Value)
 unfolding rule_of
 rule_gives wires entries i accepts h =
@@ -84,5 +78,5 @@ rule_gives wires entries i accepts h =
 pub entry_holds : (wires : List Wire) (entries : List Bounds) (i : ℕ) → Accepts wires entries → i < length wires → EntryHolds wires entries i
 entry_holds wires entries i accepts h =
     let given = rule_gives wires entries i accepts h in
-    let ends = allowed_ends (wire_at wires i).kind (proposal wires entries i) given.permits in
-    record { ruled = given.succeeds; least = ends.0; greatest = ends.1; inside = given.inside }
+    let ends = are_between (wire_at wires i).kind (proposal wires entries i) given.permits in
+    record { ruled = given.succeeds; least = ends.low; greatest = ends.high; inside = given.inside }

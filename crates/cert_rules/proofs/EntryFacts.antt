@@ -17,7 +17,7 @@ use Rattle.net_model.specs.Validity.{IsValid}
 use Rattle.net_model.proofs.ValidityFacts.{get_or-parts_of, length-parts_of, place_in-parts_of, point_of-valid}
 use Rattle.cert_rules.specs.declared.bounds.Bounds.{Bounds}
 use Rattle.cert_rules.specs.Certificates.{no_bounds, entry_of}
-use Rattle.cert_rules.specs.Rules.{is_allowed, part_least, part_greatest}
+use Rattle.cert_rules.specs.Rules.{is_allowed, is_between_ends, part_least, part_greatest}
 use Rattle.cert_rules.specs.Acceptance.{is_allowed_at, part_at, entry_at}
 use Rattle.cert_rules.specs.Entries.{AreAllowed, IsSmall}
 
@@ -59,16 +59,33 @@ three_tests a b c h =
     let h2 = and_parts a b h1.0 in
     (h2.0, h2.1, h1.1)
 
-small_from_tests : (kind : Kind) (role : Role) (b : Bounds) → is_allowed kind role b ≡ true → int_le b.lo b.hi ≡ true → int_le (pos 0) b.err ≡ true → IsSmall b
+-- what the tests of bounds say
+pub record AreBetween (kind : Kind) (b : Bounds) : Type 0 where
+  pub low : kind_least kind ≤ℤ b.lo
+  pub high : b.hi ≤ℤ kind_greatest kind
+  pub near : int_lt b.err (pos (2 ^ 40)) ≡ true
+
+pub are_between : (kind : Kind) (b : Bounds) → is_allowed kind Value b ≡ true → AreBetween kind b
 unfolding is_allowed
-small_from_tests kind Value b h order positive =
-    let t = three_tests _ _ _ h in
+are_between kind b h =
+    let t = three_tests (is_between_ends kind Value b.lo) (is_between_ends kind Value b.hi) (int_lt b.err (pos (2 ^ 40))) h in
+    let low = and_parts (int_le (kind_least kind) b.lo) (int_le b.lo (kind_greatest kind)) t.0 in
+    let high = and_parts (int_le (kind_least kind) b.hi) (int_le b.hi (kind_greatest kind)) t.1 in
     record {
-      low = int_le_trans _ _ _ (kind_least-low kind) (int_le-true (kind_least kind) b.lo t.0);
+      low = int_le-true (kind_least kind) b.lo low.0;
+      high = int_le-true b.hi (kind_greatest kind) high.1;
+      near = t.2;
+    }
+
+small_from_tests : (kind : Kind) (role : Role) (b : Bounds) → is_allowed kind role b ≡ true → int_le b.lo b.hi ≡ true → int_le (pos 0) b.err ≡ true → IsSmall b
+small_from_tests kind Value b h order positive =
+    let t = are_between kind b h in
+    record {
+      low = int_le_trans _ _ _ (kind_least-low kind) t.low;
       ordered = int_le-true b.lo b.hi order;
-      high = int_le_trans _ _ _ (int_le-true b.hi (kind_greatest kind) t.1) (kind_greatest-high kind);
+      high = int_le_trans _ _ _ t.high (kind_greatest-high kind);
       positive = int_le-true (pos 0) b.err positive;
-      near = int_lt-true b.err (pos (2 ^ 40)) t.2;
+      near = int_lt-true b.err (pos (2 ^ 40)) t.near;
     }
 
 pub small_from_allowed : (wires : List Wire) (entries : List Bounds) (k : ℕ) → is_allowed_at wires entries k ≡ true → IsSmall (entry_at entries k)
@@ -83,10 +100,7 @@ small_entry wires entries allowed w h =
 
 -- a allowed entry isn't below its wire's kind
 low_from_tests : (kind : Kind) (role : Role) (b : Bounds) → is_allowed kind role b ≡ true → kind_least kind ≤ℤ b.lo
-unfolding is_allowed
-low_from_tests kind Value b h =
-    let t = three_tests (int_le (kind_least kind) b.lo) _ _ h in
-    int_le-true (kind_least kind) b.lo t.0
+low_from_tests kind Value b h = (are_between kind b h).low
 
 low_from_allowed : (wires : List Wire) (entries : List Bounds) (k : ℕ) → is_allowed_at wires entries k ≡ true → kind_least (wire_at wires (part_at wires k).wire.0).kind ≤ℤ (entry_at entries k).lo
 unfolding is_allowed_at
@@ -100,8 +114,8 @@ entry_low wires entries allowed w h =
     let at_wire : kind_least (wire_at wires w).kind ≤ℤ (entry_at entries w).lo = subst (λ (p : Part). kind_least (wire_at wires p.wire.0).kind ≤ℤ (entry_at entries w).lo) (get_or-parts_of wires w h) low in
     rw (entry_of-value wires entries w h) at_wire
 
--- the three tests of bounds, whatever the role
-pub allowed_from_tests : (kind : Kind) (role : Role) (b : Bounds) (least greatest : ℤ) (t : Bool) → FitsSigned w64 least → FitsSigned w64 greatest → least ≡ part_least kind Value → greatest ≡ part_greatest kind Value → t ≡ (int_le (to_z w64 (of_z w64 least)) b.lo && int_le b.hi (to_z w64 (of_z w64 greatest)) && int_lt b.err (pos (2 ^ 40))) → t ≡ is_allowed kind role b
+-- the tests of bounds, whatever the role
+pub allowed_from_tests : (kind : Kind) (role : Role) (b : Bounds) (least greatest : ℤ) (t : Bool) → FitsSigned w64 least → FitsSigned w64 greatest → least ≡ part_least kind Value → greatest ≡ part_greatest kind Value → t ≡ ((int_le (to_z w64 (of_z w64 least)) b.lo && int_le b.lo (to_z w64 (of_z w64 greatest))) && (int_le (to_z w64 (of_z w64 least)) b.hi && int_le b.hi (to_z w64 (of_z w64 greatest))) && int_lt b.err (pos (2 ^ 40))) → t ≡ is_allowed kind role b
 unfolding is_allowed
 allowed_from_tests kind Value b least greatest t f g p q e =
     let plain = rw (to_z-of_z w64 least f, to_z-of_z w64 greatest g) at e in

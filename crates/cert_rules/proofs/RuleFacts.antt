@@ -1,9 +1,9 @@
 -- What the functions of the rules owe: that a block's arguments have entries, that these are small, and that the
 -- computed bounds are the definition's.
 use Rattle.std.proofs.Common.{◌≡◌, ℕ, ◌<◌, Bool, true, false, cond, List, length, ℤ, pos, ◌≤ℤ◌, refl, sym, ap, ap₂, ◌∙◌, arith, Option, Some, None, FitsSigned, to_z, of_z, w64}
-use Rattle.std.specs.Prelude.{◌≤◌, ◌^◌, ◌||◌, not, int_le, int_lt}
+use Rattle.std.specs.Prelude.{◌≤◌, ◌||◌, not, int_le}
 use Rattle.std.proofs.lemmas.Bool.{and_from, true≢false}
-use Rattle.fx_fraction.proofs.WholeNumbers.{int_le-false, int_le-true, int_le_trans}
+use Rattle.fx_fraction.proofs.WholeNumbers.{int_le-false, int_le_trans}
 use Rattle.std.proofs.lemmas.Int.{ints, to_z-of_z}
 use Rattle.fx_routines.specs.declared.operation.Variant.{Variant}
 use Rattle.fx_routines.specs.declared.operation.ArithOp.{ArithOp}
@@ -17,7 +17,7 @@ use Rattle.net_model.specs.declared.wires.Item.{Item}
 use Rattle.net_model.specs.declared.wires.Item.TheVariants.{Input, Const, Block as OfBlock}
 use Rattle.net_model.specs.declared.wires.Role.TheVariants.{Value}
 use Rattle.net_model.specs.declared.wires.Wire.{Wire}
-use Rattle.net_model.specs.Wires.{NetData, wire_at, kind_least, kind_greatest, argument_of, parts_of}
+use Rattle.net_model.specs.Wires.{NetData, wire_at, argument_of, parts_of}
 use Rattle.net_model.specs.Validity.{IsValid}
 use Rattle.net_meaning.specs.Blocks.{points_of}
 use Rattle.fx_core.specs.Arguments.{three, two}
@@ -35,7 +35,7 @@ use Rattle.cert_rules.proofs.UnsignedSteps.{unsigned_step}
 use Rattle.cert_rules.proofs.AcceptanceLaws.{ruled_if_built}
 use Rattle.net_model.proofs.BuiltFacts.{shift_from_test}
 use Rattle.net_model.proofs.ValidityFacts.{argument_of-valid, arith-valid, length-parts_of}
-use Rattle.cert_rules.proofs.EntryFacts.{entry_of-value, kind_greatest-high, kind_least-low, small_entry, three_tests}
+use Rattle.cert_rules.proofs.EntryFacts.{are_between, entry_of-value, kind_greatest-high, kind_least-low, small_entry}
 
 -- ---- a block's arguments
 
@@ -89,12 +89,12 @@ int_le-test a b true e h = e
 int_le-test a b false e h = absurd (omega (arith, ints, h, int_le-false a b e))
 
 pub is_small-from : (kind : Kind) (b : Bounds) → b.lo ≤ℤ b.hi → pos 0 ≤ℤ b.err → is_allowed kind Value b ≡ true → is_small b ≡ true
-unfolding is_allowed is_small
+unfolding is_small
 is_small-from kind b ordered positive h =
-    let t = three_tests (int_le (kind_least kind) b.lo) (int_le b.hi (kind_greatest kind)) (int_lt b.err (pos (2 ^ 40))) h in
-    let low = int_le_trans _ _ _ (kind_least-low kind) (int_le-true (kind_least kind) b.lo t.0) in
-    let high = int_le_trans _ _ _ (int_le-true b.hi (kind_greatest kind) t.1) (kind_greatest-high kind) in
-    and_from _ _ (and_from _ _ (and_from _ _ (and_from _ _ (int_le-test _ _ _ refl low) (int_le-test _ _ _ refl ordered)) (int_le-test _ _ _ refl high)) (int_le-test _ _ _ refl positive)) t.2
+    let t = are_between kind b h in
+    let low = int_le_trans _ _ _ (kind_least-low kind) t.low in
+    let high = int_le_trans _ _ _ t.high (kind_greatest-high kind) in
+    and_from _ _ (and_from _ _ (and_from _ _ (and_from _ _ (int_le-test _ _ _ refl low) (int_le-test _ _ _ refl ordered)) (int_le-test _ _ _ refl high)) (int_le-test _ _ _ refl positive)) t.near
 
 -- so leaving out the others leaves out nothing that is allowed
 leaves_out : (kind : Kind) (b : Bounds) (small is : Bool) → (is ≡ true → small ≡ true) → is_allowed kind Value b ≡ is → allowed_of kind Value (cond small (Some b) None) ≡ cond (is_allowed kind Value b) (Some b) None

@@ -31,9 +31,13 @@ part_greatest kind Value = kind_greatest kind
 abbrev pub error_cap : Role → ℤ
 error_cap Value = pos (2 ^ 40)
 
--- bounds are allowed for a part where their range lies between its ends and their error is below its cap
+-- a number lies between the ends of a part
+abbrev pub is_between_ends : Kind → Role → ℤ → Bool
+is_between_ends kind role n = int_le (part_least kind role) n && int_le n (part_greatest kind role)
+
+-- bounds are allowed for a part where both ends of their range lie between the part's ends, and their error is below its cap
 unfoldable pub is_allowed : Kind → Role → Bounds → Bool
-is_allowed kind role b = int_le (part_least kind role) b.lo && int_le b.hi (part_greatest kind role) && int_lt b.err (error_cap role)
+is_allowed kind role b = is_between_ends kind role b.lo && is_between_ends kind role b.hi && int_lt b.err (error_cap role)
 
 -- whether there is no rule for a block's value: its operation isn't smooth, or its divisor may be 0
 abbrev pub block_has_no_rule : Block → (ℕ → Bounds) → Bool
