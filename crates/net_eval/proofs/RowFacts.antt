@@ -25,7 +25,7 @@ use Rattle.net_model.specs.Validity.{IsValid, kind_holds}
 use Rattle.net_model.proofs.ValidityFacts.{IsInKind, IsGiven, const-valid, arith-valid, scaled-valid, number_kind, point_of-valid}
 use Rattle.net_model.proofs.BuiltFacts.{shift_from_test}
 use Rattle.net_meaning.specs.Cells.{Cell, plain, cell_at}
-use Rattle.net_meaning.specs.Blocks.{machine, machine_value_of, formula, state_formula, quotient_of, points_of}
+use Rattle.net_meaning.specs.Blocks.{machine, machine_cell, formula, state_formula, quotient_of, points_of}
 use Rattle.net_meaning.specs.Runs.{equation, equation_of, row_of, table}
 use Rattle.net_eval.specs.declared.resolving.Step.{Step}
 use Rattle.net_eval.specs.declared.resolving.Step.TheVariants.{Read}
@@ -176,7 +176,7 @@ unfolding machine
 value_at-values cells k = get_or-map (λ (c : Cell ℤ). c.value) cells k (plain machine (pos 0))
 
 step_cell : (net : NetData) (inputs : List ℤ) (rows : List (List ℤ)) (past : List (List (Cell ℤ))) (cells : List (Cell ℤ)) (i : ℕ) (item : Item) → IsValid net → i < length net.wires → (wire_at net.wires i).item ≡ item → step_value (item_step net.wires i item) inputs (values cells) ≡ (equation_of machine net.wires (inputs ∷ rows) (cell_at machine (cells ∷ past)) i item).value
-unfolding equation_of machine machine_value_of formula state_formula quotient_of
+unfolding equation_of machine machine_cell formula state_formula quotient_of
 step_cell net inputs rows past cells i (Input lo hi) valid lt e = refl
 step_cell net inputs rows past cells i (Const value) valid lt e = refl
 step_cell net inputs rows past cells i (OfBlock (Arith op v x y z sh)) valid lt e =

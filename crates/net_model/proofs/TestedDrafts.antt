@@ -13,6 +13,7 @@ use Rattle.net_model.specs.declared.wires.Wire.{Wire}
 use Rattle.net_model.specs.Wires.{NetData, no_wire, is_input}
 use Rattle.net_model.specs.Validity.{IsValid, is_valid, is_good_wire, is_good_kind, is_built_item, item_reads_earlier, item_agrees, item_in_range, are_good_from, are_distinct, are_distinct_numbers}
 use Rattle.net_model.specs.Faults.{are_named, has_name, wire_tested, at_wire, wires_tested, is_among, out_tested, outs_tested, has_ends, ends_tested, tested}
+use Rattle.net_model.specs.Laws.{TestsDecideValidity}
 use Rattle.net_model.proofs.ValidityFacts.{conditions, name_of_good}
 use Rattle.net_model.proofs.DraftLemmas.{distinct, new_from, good_from, apart-nil, new_from-is, remains, remains-zero, remains-step, remains-end, same_name, same_name_comm, same_number, same_number_comm}
 
@@ -236,3 +237,6 @@ named_from all i (w ∷ wires) h =
 
 pub tested_if_valid : (net : NetData) → IsValid net → tested net ≡ Ok tt
 tested_if_valid net valid = passed (tested net) (tested_decides net (named_from net.wires 0 net.wires (conditions net valid).good) ∙ valid)
+
+pub tests_decide : TestsDecideValidity
+tests_decide net named = (valid_if_tested net named, tested_if_valid net)

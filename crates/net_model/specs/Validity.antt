@@ -36,27 +36,27 @@ is_number_of ty Truth = false
 
 -- networks can have the block's routine as a block
 abbrev pub is_built_block : Block → Bool
-is_built_block (Arith op v x y z sh) = is_built op
+is_built_block (Arith op v x y z shift) = is_built op
 is_built_block (Scaled op v x y) = true
 
 -- the types of the wires that a block reads, in their order
 abbrev pub types_read : Block → List Ty
-types_read (Arith op v x y z sh) = argument_types op v
+types_read (Arith op v x y z shift) = argument_types op v
 types_read (Scaled op v x y) = scaled_types op v
 
 -- there is a routine of the block's types: a row of the table of names
 abbrev pub takes_block : Block → Bool
-takes_block (Arith op v x y z sh) = takes (routine.Arith op) v
+takes_block (Arith op v x y z shift) = takes (routine.Arith op) v
 takes_block (Scaled op v x y) = takes (routine.Scaled op) v
 
 -- the type that a block gives
 abbrev pub type_given : Block → Ty
-type_given (Arith op v x y z sh) = v.o
+type_given (Arith op v x y z shift) = v.o
 type_given (Scaled op v x y) = v.o
 
 -- the numbers that a block is given beside its wires lie in their ranges
 abbrev pub has_good_numbers : Block → Bool
-has_good_numbers (Arith op v x y z sh) = is_shift op sh
+has_good_numbers (Arith op v x y z shift) = is_shift op shift
 has_good_numbers (Scaled op v x y) = true
 
 -- ---- what a block of wire i reads

@@ -44,10 +44,10 @@ point_of Truth = 0
 
 -- argument number p of a block, from 0, as the number of a wire; behind the last one the first
 abbrev pub argument_of : Block → ℕ → ℕ
-argument_of (Arith op v x y z sh) zero = x.0
-argument_of (Arith op v x y z sh) (suc zero) = y.0
-argument_of (Arith op v x y z sh) (suc (suc zero)) = z.0
-argument_of (Arith op v x y z sh) (suc (suc (suc p))) = x.0
+argument_of (Arith op v x y z shift) zero = x.0
+argument_of (Arith op v x y z shift) (suc zero) = y.0
+argument_of (Arith op v x y z shift) (suc (suc zero)) = z.0
+argument_of (Arith op v x y z shift) (suc (suc (suc p))) = x.0
 argument_of (Scaled op v x y) zero = x.0
 argument_of (Scaled op v x y) (suc zero) = y.0
 argument_of (Scaled op v x y) (suc (suc p)) = x.0
