@@ -1,5 +1,5 @@
 -- The rule of a part depends on what it reads alone.
-use Rattle.std.proofs.Common.{◌≡◌, ℕ, zero, suc, ◌<◌, ◌≤◌, Bool, true, false, cond, not, ◌&&◌, ◌||◌, ◌==◌, List, length, refl, sym, ap, ◌∙◌, arith, None, Some, eq-or-lt_of_le, inl, inr, eq-eqb}
+use Rattle.std.proofs.Common.{◌≡◌, ℕ, ◌<◌, Bool, cond, not, ◌||◌, List, length, refl, sym, ap, ◌∙◌, arith, None, Some}
 use Rattle.fx_routines.specs.declared.operation.ArithOp.{ArithOp}
 use Rattle.fx_routines.specs.declared.operation.ArithOp.TheVariants.{Add, Sub, AbsDiff, Abs, Mul, Div, Mod, MulDiv, MulShRight, DivShLeft, Limit, Min, Max, RateLimiter}
 use Rattle.mfx_scaled.specs.declared.binary_points.Points.{Points}
@@ -12,7 +12,6 @@ use Rattle.net_model.specs.declared.wires.Item.{Item}
 use Rattle.net_model.specs.declared.wires.Item.TheVariants.{Input, Const, Block as OfBlock}
 use Rattle.net_model.specs.declared.wires.Role.{Role}
 use Rattle.net_model.specs.declared.wires.Role.TheVariants.{Value}
-use Rattle.net_model.specs.declared.wires.Part.{Part}
 use Rattle.net_model.specs.declared.wires.Wire.{Wire}
 use Rattle.net_model.specs.Wires.{NetData, wire_at, argument_of, parts_of}
 use Rattle.net_model.specs.Validity.{IsValid}
@@ -26,7 +25,8 @@ use Rattle.cert_rules.specs.ArithRules.{arith_bounds, arith_may_divide_by_zero, 
 use Rattle.cert_rules.specs.ScaledRules.{scaled_bounds, scaled_may_divide_by_zero, scaled_values}
 use Rattle.cert_rules.specs.Rules.{allowed_of, arguments_of, has_no_rule, proposed, rule_of}
 use Rattle.cert_rules.specs.Acceptance.{part_at}
-use Rattle.cert_rules.specs.Arguments.{AgreeFor, RulesReadTheirArguments, arity_of, is_among_first, reads, reads_at}
+use Rattle.cert_rules.specs.Arguments.{AgreeFor, RulesReadTheirArguments, arity_of}
+use Rattle.cert_rules.proofs.PartsRead.{among, reads_at-now, reads_there}
 
 -- ---- an operation's bounds depend on as many arguments as it has
 
@@ -154,31 +154,13 @@ rule_same wires i one other same =
 
 -- ---- each argument of a block is a part that is read
 
-or-true : (a : Bool) → (a || true) ≡ true
-or-true true = refl
-or-true false = refl
-
-among : (b : Block) (n q : ℕ) → q < n → is_among_first b n (argument_of b q) ≡ true
-among b zero q h = absurd (omega arith)
-among b (suc n) q h =
-    let le : q ≤ n = omega arith in
-    elim (eq-or-lt_of_le le) [
-      | inl same ↦ ap (λ t. is_among_first b n (argument_of b q) || t) (eq-eqb _ _ (ap (argument_of b) (sym same))) ∙ or-true _
-      | inr less ↦ ap (λ t. t || argument_of b n == argument_of b q) (among b n q less)
-    ]
-
-reads_there : (wires : List Wire) (p a : ℕ) (b : Block) → part_at wires p ≡ value_part p → part_at wires a ≡ value_part a → (wire_at wires p).item ≡ OfBlock b → is_among_first b (arity_of b) a ≡ true → reads_at wires p a ≡ true
-unfolding reads_at
-reads_there wires p a b here there is e =
-    ap (λ (t : Part). reads (wire_at wires t.wire.0).item (part_at wires a)) here ∙ ap (reads (wire_at wires p).item) there ∙ ap (λ (t : Item). reads t (value_part a)) is ∙ ap (λ (t : Bool). t && true) e
-
 same_arguments : (net : NetData) → IsValid net → (p : ℕ) → p < length net.wires → (one other : ℕ → Role → Bounds) → AgreeFor net.wires p one other → SameFor (wire_at net.wires p).item (λ w. one w Value) (λ w. other w Value)
 same_arguments net valid p there one other agree b is q few =
     let below : argument_of b q < p = argument_of-valid net p b valid there is q in
     let in_wires : argument_of b q < length net.wires = omega arith in
     let in_parts : argument_of b q < length (parts_of net.wires) = rw (length-parts_of net.wires) in_wires in
     let here : part_at net.wires (argument_of b q) ≡ value_part (argument_of b q) = get_or-parts_of net.wires (argument_of b q) in_wires in
-    let read = reads_there net.wires p (argument_of b q) b (get_or-parts_of net.wires p there) here is (among b (arity_of b) q few) in
+    let read = reads_at-now net.wires p (argument_of b q) (reads_there net.wires p (argument_of b q) b (get_or-parts_of net.wires p there) here is (among b (arity_of b) q few)) in
     rw here at (agree (argument_of b q) in_parts read)
 
 pub rules_read_their_arguments : RulesReadTheirArguments

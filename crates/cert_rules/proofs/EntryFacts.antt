@@ -18,8 +18,8 @@ use Rattle.net_model.proofs.ValidityFacts.{get_or-parts_of, length-parts_of, pla
 use Rattle.cert_rules.specs.declared.bounds.Bounds.{Bounds}
 use Rattle.cert_rules.specs.Certificates.{no_bounds, entry_of}
 use Rattle.cert_rules.specs.Rules.{is_allowed, is_between_ends, part_least, part_greatest}
-use Rattle.cert_rules.specs.Acceptance.{is_allowed_at, part_at, entry_at}
-use Rattle.cert_rules.specs.Entries.{AreAllowed, IsSmall}
+use Rattle.cert_rules.specs.Acceptance.{AreAllowed, is_allowed_at, part_at, entry_at}
+use Rattle.cert_rules.specs.Entries.{IsSmall}
 
 -- ---- the entry of a wire's value has the wire's number
 

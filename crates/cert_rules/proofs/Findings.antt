@@ -14,8 +14,7 @@ use Rattle.fx_core.proofs.WordSteps.{word_of}
 use Rattle.cert_rules.specs.declared.bounds.Bounds.{Bounds}
 use Rattle.cert_rules.specs.Certificates.{entry_of}
 use Rattle.cert_rules.specs.Rules.{is_allowed, rule_of}
-use Rattle.cert_rules.specs.Acceptance.{entry_at, first_failing, first_rejected, is_inductive_at, is_allowed_at, lies_inside, or_later, part_at, start_of, starts_inside}
-use Rattle.cert_rules.specs.Entries.{AreAllowed}
+use Rattle.cert_rules.specs.Acceptance.{AreAllowed, entry_at, first_failing, first_rejected, is_inductive_at, is_allowed_at, lies_inside, or_later, part_at, start_of, starts_inside}
 
 -- ---- one step of the search
 

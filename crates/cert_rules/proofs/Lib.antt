@@ -29,7 +29,9 @@ pub mod ScaledSoundnessProof
 pub mod ScaledArguments
 pub mod ScaledCornerHulls
 pub mod ScaledCornerValues
+pub mod PartsRead
 pub mod RuleSoundness
+pub mod RulesLaw
 pub mod UnsignedSteps
 pub mod Places
 pub mod AcceptedEntries

@@ -27,8 +27,8 @@ use Rattle.cert_rules.specs.Certificates.{entry_of}
 use Rattle.cert_rules.specs.Rules.{allowed_of, arguments_of, bounds_of, is_allowed, proposed, rule_of}
 use Rattle.cert_rules.specs.ScaledRules.{scaled_bounds, scaled_may_divide_by_zero}
 use Rattle.cert_rules.specs.ArithRules.{arith_bounds, arith_may_divide_by_zero}
-use Rattle.cert_rules.specs.Acceptance.{entry_at}
-use Rattle.cert_rules.specs.Entries.{AreAllowed, IsSmall, if_small, is_small}
+use Rattle.cert_rules.specs.Acceptance.{AreAllowed, entry_at}
+use Rattle.cert_rules.specs.Entries.{IsSmall, if_small, is_small}
 use Rattle.cert_rules.proofs.ScaledArguments.{form_bounds_of_two, form_divisor_of_two, proper_form_bounds}
 use Rattle.cert_rules.proofs.ArithArguments.{bounds_of_three, divisor_of_three, proper_bounds}
 use Rattle.cert_rules.proofs.UnsignedSteps.{unsigned_step}

@@ -1,4 +1,5 @@
--- What the functions of the rules of arithmetic read: three numbers, and three bounds, as an operation's arguments.
+-- What the functions of the rules of arithmetic compute, from three numbers and from three bounds. No public clause needs
+-- this: the clauses of private functions do.
 use Rattle.std.specs.Prelude.{ℕ, ◌≤◌, ℤ, unsigned_abs}
 use Rattle.std.specs.Int.{int_min, int_max}
 use Rattle.fx_core.specs.Arguments.{three}

@@ -10,7 +10,7 @@ use Rattle.cert_rules.specs.declared.bounds.Bounds.{Bounds}
 use Rattle.cert_rules.specs.Certificates.{IsWithin}
 use Rattle.cert_rules.specs.ArithRules.{arith_rounded, arith_may_divide_by_zero, arith_bounds}
 
--- the step of a rate limiter is of an unsigned type, so its range isn't below 0
+-- the step of a rate limiter isn't below 0: in a network its type is unsigned
 abbrev pub HasUnsignedStep : ArithOp → (ℕ → Bounds) → Type 0
 HasUnsignedStep RateLimiter given = pos 0 ≤ℤ (given 2).lo
 HasUnsignedStep other given = Unit {0}
@@ -19,14 +19,20 @@ HasUnsignedStep other given = Unit {0}
 abbrev pub AreWithin : ArithOp → (ℕ → Bounds) → (ℕ → ℤ) → (ℕ → Fraction) → Type 0
 AreWithin op given m e = (p : ℕ) → p < arith_arity op → IsWithin (given p) (m p) (e p)
 
--- an operation's value by its rule: no divisor is 0, neither in the machine nor as a fraction, and the rounded value at
--- the whole numbers is within the rule's bounds of the value at the fractions
+-- an operation keeps its rule at whole numbers m and fractions e
 pub record KeepsRule (op : ArithOp) (shift : ℕ) (given : ℕ → Bounds) (m : ℕ → ℤ) (e : ℕ → Fraction) : Type 0 where
+  -- its divisor isn't 0 at the whole numbers
   pub machine_divides : Divides (quotient_of op shift (λ p. whole (m p)))
+  -- nor is it at the fractions
   pub exact_divides : Divides (quotient_of op shift e)
+  -- the rounded value at the whole numbers is within the rule's bounds of the value at the fractions
   pub within : IsWithin (arith_bounds op shift given) (arith_rounded op shift m) (arith_formula op shift e)
 
--- the rules of arithmetic are sound: for each operation that has one, where its divisor can't be 0 and its arguments are
--- within their bounds
+-- the rules of arithmetic are sound: each operation that has one keeps it where its divisor can't be 0, a step isn't below 0,
+-- and the arguments are within their bounds
 abbrev pub ArithRulesAreSound : Type 0
-ArithRulesAreSound = (op : ArithOp) → IsTrue (is_smooth_operation op) → (shift : ℕ) (given : ℕ → Bounds) (m : ℕ → ℤ) (e : ℕ → Fraction) → arith_may_divide_by_zero op given ≡ false → HasUnsignedStep op given → AreWithin op given m e → KeepsRule op shift given m e
+ArithRulesAreSound =
+    (op : ArithOp) → IsTrue (is_smooth_operation op) →
+    (shift : ℕ) (given : ℕ → Bounds) (m : ℕ → ℤ) (e : ℕ → Fraction) →
+    arith_may_divide_by_zero op given ≡ false → HasUnsignedStep op given → AreWithin op given m e →
+    KeepsRule op shift given m e

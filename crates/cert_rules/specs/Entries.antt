@@ -1,13 +1,6 @@
--- What is known of entries that are allowed: that each is, and how small one is.
-use Rattle.std.specs.Prelude.{ℕ, ◌<◌, ◌^◌, Bool, ◌&&◌, List, length, pos, negsuc, ◌≤ℤ◌, ◌<ℤ◌, int_le, int_lt, IsTrue, Option, Some, None, if◌then◌else◌}
-use Rattle.net_model.specs.declared.wires.Wire.{Wire}
-use Rattle.net_model.specs.Wires.{parts_of}
+-- How small an entry is that is allowed. No public clause needs this: the clauses of private functions do.
+use Rattle.std.specs.Prelude.{◌^◌, Bool, ◌&&◌, pos, negsuc, ◌≤ℤ◌, ◌<ℤ◌, int_le, int_lt, Option, Some, None, if◌then◌else◌}
 use Rattle.cert_rules.specs.declared.bounds.Bounds.{Bounds}
-use Rattle.cert_rules.specs.Acceptance.{is_allowed_at}
-
--- each part's entry is allowed
-abbrev pub AreAllowed : List Wire → List Bounds → Type 0
-AreAllowed wires entries = (k : ℕ) → k < length (parts_of wires) → IsTrue (is_allowed_at wires entries k)
 
 -- bounds of a allowed entry, whatever its part: the range isn't empty and lies between the ends of all types, and the
 -- error is neither negative nor above the largest cap

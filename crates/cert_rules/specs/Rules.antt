@@ -41,7 +41,8 @@ is_allowed kind role b = is_between_ends kind role b.lo && is_between_ends kind 
 
 -- whether there is no rule for a block's value: its operation isn't smooth, or its divisor may be 0
 abbrev pub block_has_no_rule : Block → (ℕ → Bounds) → Bool
-block_has_no_rule (Arith op v x y z sh) known = not (is_smooth_operation op) || arith_may_divide_by_zero op (arguments_of (Arith op v x y z sh) known)
+block_has_no_rule (Arith op v x y z shift) known =
+    not (is_smooth_operation op) || arith_may_divide_by_zero op (arguments_of (Arith op v x y z shift) known)
 block_has_no_rule (Scaled op v x y) known = scaled_may_divide_by_zero op (arguments_of (Scaled op v x y) known)
 
 -- the same of a wire's value
@@ -54,8 +55,9 @@ has_no_rule (OfBlock b) known = block_has_no_rule b known
 unfoldable pub proposed : List Wire → Kind → Item → (ℕ → Bounds) → Bounds
 proposed wires kind (Input lo hi) known = record { lo = lo; hi = hi; err = pos 0 }
 proposed wires kind (Const value) known = record { lo = value; hi = value; err = pos 0 }
-proposed wires kind (OfBlock (Arith op v x y z sh)) known = arith_bounds op sh (arguments_of (Arith op v x y z sh) known)
-proposed wires kind (OfBlock (Scaled op v x y)) known = scaled_bounds op (points_of wires kind (Scaled op v x y)) (arguments_of (Scaled op v x y) known)
+proposed wires kind (OfBlock (Arith op v x y z shift)) known = arith_bounds op shift (arguments_of (Arith op v x y z shift) known)
+proposed wires kind (OfBlock (Scaled op v x y)) known =
+    let b = Scaled op v x y in scaled_bounds op (points_of wires kind b) (arguments_of b known)
 
 -- the same; none where there is no rule for the wire's value
 abbrev pub bounds_of : List Wire → Kind → Item → (ℕ → Bounds) → Option Bounds
@@ -70,7 +72,8 @@ abbrev pub allowed_of : Kind → Role → Option Bounds → Option Bounds
 allowed_of kind role None = None
 allowed_of kind role (Some b) = if_allowed kind role b
 
--- the rule of a part of wire i: its bounds, from those of all parts (`all w r` are those of part r of wire w); none
+-- the rule of a part of wire i: its bounds, from those of all parts (`all k r` are those of part r of wire k); none
 -- where there is no rule for it, or where the bounds aren't allowed
 unfoldable pub rule_of : List Wire → ℕ → Role → (ℕ → Role → Bounds) → Option Bounds
-rule_of wires i Value all = allowed_of (wire_at wires i).kind Value (bounds_of wires (wire_at wires i).kind (wire_at wires i).item (λ w. all w Value))
+rule_of wires i Value all =
+    let w = wire_at wires i in allowed_of w.kind Value (bounds_of wires w.kind w.item (λ k. all k Value))

@@ -1,4 +1,5 @@
--- What the functions of the rules of the forms read: two numbers, and two bounds, as a form's arguments.
+-- What the functions of the rules of the forms compute, from two numbers and from two bounds. No public clause needs this:
+-- the clauses of private functions do.
 use Rattle.std.specs.Prelude.{◌≤◌, ℤ, unsigned_abs}
 use Rattle.std.specs.Int.{int_min, int_max}
 use Rattle.fx_core.specs.Arguments.{two}

@@ -14,13 +14,18 @@ use Rattle.cert_rules.specs.ScaledRules.{scaled_rounded, scaled_may_divide_by_ze
 abbrev pub FormIsGiven : ScaledOp → (ℕ → Bounds) → (ℕ → ℤ) → (ℕ → Fraction) → Type 0
 FormIsGiven op given m e = (p : ℕ) → p < scaled_arity op → IsWithin (given p) (m p) (e p)
 
--- a form's value by its rule: no divisor is 0, neither in the machine nor as a fraction, and the rounded value at the whole
--- numbers is within the rule's bounds of the value at the fractions
+-- a form keeps its rule at whole numbers m and fractions e
 pub record FormKeepsRule (op : ScaledOp) (points : Points) (given : ℕ → Bounds) (m : ℕ → ℤ) (e : ℕ → Fraction) : Type 0 where
+  -- its divisor isn't 0 at the whole numbers
   pub machine_divides : Divides (quotient_of op points (λ p. whole (m p)))
+  -- nor is it at the fractions
   pub exact_divides : Divides (quotient_of op points e)
+  -- the rounded value at the whole numbers is within the rule's bounds of the value at the fractions
   pub within : IsWithin (scaled_bounds op points given) (scaled_rounded op points m) (scaled_formula op points e)
 
--- the rules of the forms are sound: for each form, where its divisor can't be 0 and its arguments are within their bounds
+-- the rules of the forms are sound: each form keeps its rule where its divisor can't be 0 and its arguments are within their
+-- bounds
 abbrev pub ScaledRulesAreSound : Type 0
-ScaledRulesAreSound = (op : ScaledOp) (points : Points) (given : ℕ → Bounds) (m : ℕ → ℤ) (e : ℕ → Fraction) → scaled_may_divide_by_zero op given ≡ false → FormIsGiven op given m e → FormKeepsRule op points given m e
+ScaledRulesAreSound =
+    (op : ScaledOp) (points : Points) (given : ℕ → Bounds) (m : ℕ → ℤ) (e : ℕ → Fraction) →
+    scaled_may_divide_by_zero op given ≡ false → FormIsGiven op given m e → FormKeepsRule op points given m e

@@ -2,8 +2,7 @@
 
 ghost use Rattle.std.specs.Prelude.{◌≡◌, ◌<◌, ◌&&◌, None, int_le, length, option_map, pos};
 ghost use Rattle.net_model.specs.Wires.{parts_of};
-ghost use Rattle.cert_rules.specs.Acceptance.{first_failing, first_rejected, is_inductive_at, is_allowed_at};
-ghost use Rattle.cert_rules.specs.Entries.{AreAllowed};
+ghost use Rattle.cert_rules.specs.Acceptance.{AreAllowed, first_failing, first_rejected, is_inductive_at, is_allowed_at};
 
 use crate::bounds::Bounds;
 use crate::limits::allowed;

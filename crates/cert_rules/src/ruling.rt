@@ -5,8 +5,7 @@ ghost use Rattle.net_model.specs.Wires.{parts_of, wire_at};
 ghost use Rattle.net_model.specs.Validity.{IsValid};
 ghost use Rattle.cert_rules.specs.Certificates.{entry_of};
 ghost use Rattle.cert_rules.specs.Rules.{allowed_of, bounds_of, rule_of};
-ghost use Rattle.cert_rules.specs.Acceptance.{part_at};
-ghost use Rattle.cert_rules.specs.Entries.{AreAllowed};
+ghost use Rattle.cert_rules.specs.Acceptance.{AreAllowed, part_at};
 
 use crate::bounds::Bounds;
 use crate::limits::is_within_limits;
