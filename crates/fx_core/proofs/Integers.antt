@@ -1,5 +1,5 @@
 -- Orders and products of integers, as the laws of rounding need them.
-use Rattle.std.proofs.Common.{◌≡◌, ℕ, zero, ◌+◌, ◌*◌, ◌<◌, ◌≤◌, ℤ, pos, negsuc, ◌+ℤ◌, ◌-ℤ◌, ◌*ℤ◌, neg_ℤ, ◌≤ℤ◌, ◌<ℤ◌, refl, ◌∙◌, ap, arith, lt_of_mul-lt-mul_right, mul-le-mul_right, le_of_mul-le-mul_right}
+use Rattle.std.proofs.Common.{◌≡◌, ℕ, zero, ◌+◌, ◌*◌, ◌<◌, ◌≤◌, ℤ, pos, ◌+ℤ◌, ◌-ℤ◌, ◌*ℤ◌, neg_ℤ, ◌≤ℤ◌, ◌<ℤ◌, ◌∙◌, ap, arith, lt_of_mul-lt-mul_right, mul-le-mul_right, le_of_mul-le-mul_right}
 use Rattle.std.proofs.lemmas.Int.{ints}
 use borrow.Author.Differences.{up, down, below_in, at_most_in, neg_is, same_in}
 use lib.IntN.{+ℤ_one, -ℤ_one, suc_ℤ-*ℤ, pred_ℤ-*ℤ}
@@ -30,15 +30,6 @@ next-*ℤ r d = ap (λ t. t *ℤ d) (+ℤ_one r) ∙ suc_ℤ-*ℤ r d
 
 pub previous-*ℤ : (r d : ℤ) → (r -ℤ pos 1) *ℤ d ≡ r *ℤ d -ℤ d
 previous-*ℤ r d = ap (λ t. t *ℤ d) (-ℤ_one r) ∙ pred_ℤ-*ℤ r d
-
--- one of the two parts of a number is 0
-pub not_negative : (z : ℤ) → pos 0 ≤ℤ z → down z ≡ 0
-not_negative (pos n) h = refl
-not_negative (negsuc n) h = absurd h.le
-
-pub not_positive : (z : ℤ) → z ≤ℤ pos 0 → up z ≡ 0
-not_positive (pos n) h = omega (arith, ints, h)
-not_positive (negsuc n) h = refl
 
 -- a sign moves out of a product
 pub neg-*ℤ : (r : ℤ) (k : ℕ) → neg_ℤ r *ℤ pos k ≡ neg_ℤ (r *ℤ pos k)

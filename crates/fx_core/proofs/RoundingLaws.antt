@@ -1,14 +1,14 @@
 -- The laws of rounding.
-use Rattle.std.proofs.Common.{◌≡◌, ℕ, suc, zero, ◌+◌, ◌*◌, ◌<◌, ◌≤◌, ◌/◌, ◌^◌, ℤ, pos, negsuc, ◌+ℤ◌, ◌-ℤ◌, ◌*ℤ◌, neg_ℤ, ◌≤ℤ◌, ◌<ℤ◌, sym, ◌∙◌, ap, subst, arith, div-mul-le_self, div-le_self, le_antisymm, le_of_mul-le-mul_right, le-div_iff_mul-le, lt_of_not-le, mul-le-mul_left, zero-mul}
+use Rattle.std.proofs.Common.{◌≡◌, ℕ, suc, zero, ◌*◌, ◌<◌, ◌≤◌, ◌/◌, ◌^◌, ℤ, pos, negsuc, ◌+ℤ◌, ◌-ℤ◌, ◌*ℤ◌, neg_ℤ, ◌≤ℤ◌, ◌<ℤ◌, sym, ◌∙◌, ap, subst, arith, div-mul-le_self, le-div_iff_mul-le, mul-le-mul_left}
 use Rattle.std.proofs.Math.Nat.{lt-div-mul-add}
 use Rattle.std.specs.Prelude.{unsigned_abs, int_div}
-use Rattle.std.proofs.lemmas.Int.{ints, unsigned_abs-mul}
+use Rattle.std.proofs.lemmas.Int.{ints}
 use Rattle.std.proofs.lemmas.Nat.{pow_pos}
-use borrow.Author.Differences.{up, down, below_in, at_most_in, same_in, lt_out, le_out}
+use borrow.Author.Differences.{below_in, at_most_in, same_in, lt_out, le_out}
 use Rattle.fx_core.specs.declared.quotient.Mode.{Mode}
 use Rattle.fx_core.specs.declared.quotient.Mode.TheVariants.{Zero, Floor, Near}
-use Rattle.fx_core.specs.Rounding.{HasSignOf, IsLeastQuotientAbove, Rounds, floor_quotient, least_quotient_above, power, rounded, shifted_rounded, ShiftRounds}
-use Rattle.fx_core.proofs.Integers.{less_of_products, le_of_products, neg-*ℤ, next-*ℤ, products_order, previous-*ℤ, not_negative, not_positive}
+use Rattle.fx_core.specs.Rounding.{IsLeastQuotientAbove, Rounds, floor_quotient, least_quotient_above, power, rounded, shifted_rounded, ShiftRounds}
+use Rattle.fx_core.proofs.Integers.{less_of_products, neg-*ℤ, next-*ℤ, products_order, previous-*ℤ}
 
 -- ---- downward
 
@@ -34,31 +34,45 @@ floor_quotient_only n r s k x y =
     let above : s ≤ℤ r = floor_order n n s r k (at_most_in n n (omega arith)) y.0 x.1 in
     same_in r s (omega (arith, ints, below, above))
 
+-- ---- upward
+
+-- a whole number whose predecessor is below n / d is at most one that is not below it
+upward_order : (n r s : ℤ) (k : ℕ) → ((r -ℤ pos 1) *ℤ pos k) <ℤ n → n ≤ℤ (s *ℤ pos k) → r ≤ℤ s
+upward_order n r s k low high =
+    let less : (r -ℤ pos 1) <ℤ s = less_of_products (r -ℤ pos 1) s k (below_in _ _ (omega (arith, lt_out _ _ low, le_out _ _ high))) in
+    at_most_in r s (omega (arith, ints, less))
+
+-- there is one number only that is not below n / d while the number before it is
+upward_only : (n r s : ℤ) (k : ℕ) → IsLeastQuotientAbove n (pos k) r → IsLeastQuotientAbove n (pos k) s → r ≡ s
+upward_only n r s k x y =
+    let below : r ≤ℤ s = upward_order n r s k x.1 y.0 in
+    let above : s ≤ℤ r = upward_order n s r k y.1 x.0 in
+    same_in r s (omega (arith, ints, below, above))
+
 -- ---- toward zero
 
--- the quotient toward zero has the sign of n, and no greater absolute value fits
+-- a natural number over k is rounded upward too where it is 0
+zero_upward : (n k : ℕ) → zero < k → pos n ≤ℤ pos 0 → IsLeastQuotientAbove (pos n) (pos k) (pos (n / k))
+zero_upward n k p h =
+    (at_most_in _ _ (omega (arith, ints, h)), rw previous-*ℤ (below_in _ _ (omega (arith, ints, p, h, div-mul-le_self n k))))
+
+-- the quotient toward zero is rounded downward for n of at least 0, and upward for n of at most 0
 pub int_div_bounds : (n : ℤ) (k : ℕ) → pos 1 ≤ℤ pos k → Rounds Zero n (pos k) (int_div n (pos k))
 int_div_bounds (pos n) k one =
-    let p : zero < k = omega (arith, ints, one) in
-    ((λ _. at_most_in _ _ (omega arith), λ h. at_most_in _ _ (omega (arith, ints, h, div-le_self n k))), div-mul-le_self n k, λ q h. (le-div_iff_mul-le {k = k} {x = q} {y = n} p).1 h)
+    (λ _. floor_quotient_bounds (pos n) k one, λ h. zero_upward n k (omega (arith, ints, one)) h)
 int_div_bounds (negsuc n) k one =
     let p : zero < k = omega (arith, ints, one) in
-    let e : unsigned_abs (neg_ℤ (pos (suc n / k))) ≡ suc n / k = omega (arith, ints) in
-    ((λ h. absurd h.le, λ _. at_most_in _ _ (omega (arith, ints))), rw e (div-mul-le_self (suc n) k), λ q h. rw e ((le-div_iff_mul-le {k = k} {x = q} {y = suc n} p).1 h))
-
--- two whole numbers of one sign and one absolute value are one
-same_from_sign : (n r s : ℤ) → HasSignOf n r → HasSignOf n s → unsigned_abs r ≡ unsigned_abs s → r ≡ s
-same_from_sign (pos n) r s x y e =
-    let h : pos 0 ≤ℤ pos n = at_most_in _ _ (omega arith) in
-    same_in r s (omega (arith, ints, x.0 h, y.0 h, e))
-same_from_sign (negsuc n) r s x y e =
-    let h : negsuc n ≤ℤ pos 0 = at_most_in _ _ (omega arith) in
-    same_in r s (omega (arith, ints, x.1 h, y.1 h, e))
+    let minus : neg_ℤ (pos (suc n / k)) *ℤ pos k ≡ neg_ℤ (pos (suc n / k) *ℤ pos k) = neg-*ℤ (pos (suc n / k)) k in
+    (λ h. absurd h.le, λ _. (at_most_in _ _ (omega (arith, ints, minus, div-mul-le_self (suc n) k)), rw previous-*ℤ (below_in _ _ (omega (arith, ints, minus, lt-div-mul-add {a = suc n} {b = k} p)))))
 
 -- there is one such number only
 pub int_div_only : (n r s : ℤ) (k : ℕ) → Rounds Zero n (pos k) r → Rounds Zero n (pos k) s → r ≡ s
-int_div_only n r s k x y =
-    same_from_sign n r s x.0 y.0 (le_antisymm (y.2 (unsigned_abs r) x.1) (x.2 (unsigned_abs s) y.1))
+int_div_only (pos n) r s k x y =
+    let h : pos 0 ≤ℤ pos n = at_most_in _ _ (omega arith) in
+    floor_quotient_only (pos n) r s k (x.0 h) (y.0 h)
+int_div_only (negsuc n) r s k x y =
+    let h : negsuc n ≤ℤ pos 0 = at_most_in _ _ (omega (arith, ints)) in
+    upward_only (negsuc n) r s k (x.1 h) (y.1 h)
 
 -- a greater dividend has no smaller quotient
 div_order : (n m k : ℕ) → zero < k → n ≤ m → n / k ≤ m / k
@@ -131,10 +145,10 @@ rounded_monotone Near n p (pos k) one order =
 
 -- a whole number is its own rounding
 rounds_whole : (m : Mode) (z : ℤ) (k : ℕ) → pos 1 ≤ℤ pos k → Rounds m (z *ℤ pos k) (pos k) z
-rounds_whole Zero z k one =
-    let size : unsigned_abs (z *ℤ pos k) ≡ unsigned_abs z * k = unsigned_abs-mul z (pos k) in
-    let p : zero < k = omega (arith, ints, one) in
-    ((λ h. le_of_products (pos 0) z k one (at_most_in _ _ (omega (arith, ints, h))), λ h. le_of_products z (pos 0) k one (at_most_in _ _ (omega (arith, ints, h)))), omega (arith, size), λ q h. le_of_mul-le-mul_right {k = k} (subst (λ t. q * k ≤ t) size h) p)
+rounds_whole Zero z k one = (
+  (λ _. (at_most_in _ _ (omega arith), rw next-*ℤ (below_in _ _ (omega (arith, ints, one))))),
+  (λ _. (at_most_in _ _ (omega arith), rw previous-*ℤ (below_in _ _ (omega (arith, ints, one))))),
+)
 rounds_whole Floor z k one = (at_most_in _ _ (omega arith), rw next-*ℤ (below_in _ _ (omega (arith, ints, one))))
 rounds_whole Near z k one = (below_in _ _ (omega (arith, ints, one)), at_most_in _ _ (omega (arith, ints, one)))
 
@@ -176,31 +190,22 @@ unsigned_abs-rounded m (negsuc n) (pos k) one =
 
 -- ---- how far the rounded number is from n / d, over the numerators
 
--- where r has the sign of n, and r times k is at most n and less than k below it, in absolute values, the two are less than k apart
-by_sign : (n r : ℤ) (k : ℕ) → HasSignOf n r → unsigned_abs (r *ℤ pos k) ≤ unsigned_abs n → unsigned_abs n < unsigned_abs (r *ℤ pos k) + k → unsigned_abs (r *ℤ pos k -ℤ n) < k
-by_sign (pos n) r k x low high =
-    let h : pos 0 ≤ℤ r = x.0 (at_most_in _ _ (omega arith)) in
-    let none : down r ≡ 0 = not_negative r h in
-    let gone : down r * k ≡ 0 = rw none (zero-mul k) in
-    omega (arith, ints)
-by_sign (negsuc n) r k x low high =
-    let h : r ≤ℤ pos 0 = x.1 (at_most_in _ _ (omega arith)) in
-    let none : up r ≡ 0 = not_positive r h in
-    let gone : up r * k ≡ 0 = rw none (zero-mul k) in
-    omega (arith, ints)
-
--- toward zero, downward and to the nearest: the product of r with the divisor against n
-zero_error : (n r : ℤ) (k : ℕ) → Rounds Zero n (pos k) r → unsigned_abs (r *ℤ pos k -ℤ n) < k
-zero_error n r k x =
-    let last : unsigned_abs n < (unsigned_abs r + 1) * k = lt_of_not-le (λ h. omega (arith, x.2 (unsigned_abs r + 1) h)) in
-    let size : unsigned_abs (r *ℤ pos k) ≡ unsigned_abs r * k = unsigned_abs-mul r (pos k) in
-    by_sign n r k x.0 (subst (λ t. t ≤ unsigned_abs n) (sym size) x.1) (omega (arith, size))
-
+-- downward, upward, toward zero and to the nearest: the product of r with the divisor against n
 floor_error : (n r : ℤ) (k : ℕ) → Rounds Floor n (pos k) r → unsigned_abs (r *ℤ pos k -ℤ n) < k
 floor_error n r k (low, high) =
     let next : (r +ℤ pos 1) *ℤ pos k ≡ r *ℤ pos k +ℤ pos k = next-*ℤ r (pos k) in
     let high' = rw next at high in
     omega (arith, ints, low, high')
+
+upward_error : (n r : ℤ) (k : ℕ) → IsLeastQuotientAbove n (pos k) r → unsigned_abs (r *ℤ pos k -ℤ n) < k
+upward_error n r k (low, high) =
+    let before : (r -ℤ pos 1) *ℤ pos k ≡ r *ℤ pos k -ℤ pos k = previous-*ℤ r (pos k) in
+    let high' = rw before at high in
+    omega (arith, ints, low, high')
+
+zero_error : (n r : ℤ) (k : ℕ) → Rounds Zero n (pos k) r → unsigned_abs (r *ℤ pos k -ℤ n) < k
+zero_error (pos n) r k x = floor_error (pos n) r k (x.0 (at_most_in _ _ (omega arith)))
+zero_error (negsuc n) r k x = upward_error (negsuc n) r k (x.1 (at_most_in _ _ (omega (arith, ints))))
 
 near_error : (n r : ℤ) (k : ℕ) → Rounds Near n (pos k) r → 2 * unsigned_abs (r *ℤ pos k -ℤ n) ≤ k
 near_error n r k (low, high) = omega (arith, ints, low, high)
@@ -227,12 +232,6 @@ turned n r k (low, high) =
     let minus : neg_ℤ r *ℤ pos k ≡ neg_ℤ (r *ℤ pos k) = neg-*ℤ r k in
     (at_most_in _ _ (omega (arith, ints, low, minus)), rw previous-*ℤ (below_in _ _ (omega (arith, ints, high', minus))))
 
--- a whole number whose predecessor is below n / d is at most one that is not below it
-above_order : (n r s : ℤ) (k : ℕ) → ((r -ℤ pos 1) *ℤ pos k) <ℤ n → n ≤ℤ (s *ℤ pos k) → r ≤ℤ s
-above_order n r s k low high =
-    let less : (r -ℤ pos 1) <ℤ s = less_of_products (r -ℤ pos 1) s k (below_in _ _ (omega (arith, lt_out _ _ low, le_out _ _ high))) in
-    at_most_in r s (omega (arith, ints, less))
-
 -- the function gives the least whole number not below n / d
 pub least_quotient_above_bounds : (n d : ℤ) → pos 1 ≤ℤ d → IsLeastQuotientAbove n d (least_quotient_above n d)
 unfolding least_quotient_above
@@ -242,10 +241,7 @@ least_quotient_above_bounds n (pos k) one = turned n _ k (floor_quotient_bounds 
 -- there is one such number only
 pub least_quotient_above_only : (n d r s : ℤ) → pos 1 ≤ℤ d → IsLeastQuotientAbove n d r → IsLeastQuotientAbove n d s → r ≡ s
 least_quotient_above_only n (negsuc k) r s one x y = absurd one.le
-least_quotient_above_only n (pos k) r s one x y =
-    let below : r ≤ℤ s = above_order n r s k x.1 y.0 in
-    let above : s ≤ℤ r = above_order n s r k y.1 x.0 in
-    same_in r s (omega (arith, ints, below, above))
+least_quotient_above_only n (pos k) r s one x y = upward_only n r s k x y
 
 -- so what has the property is the function's number
 pub least_quotient_above_from_bounds : (n d r : ℤ) → pos 1 ≤ℤ d → IsLeastQuotientAbove n d r → r ≡ least_quotient_above n d

@@ -1,15 +1,14 @@
 -- Quotients of whole numbers, rounded to a whole number. The divisor d is at least 1 throughout.
-use Rattle.std.specs.Prelude.{ℕ, suc, ℤ, pos, negsuc, neg_ℤ, ◌*◌, ◌/◌, ◌^◌, ◌≤◌, ◌+ℤ◌, ◌-ℤ◌, ◌*ℤ◌, ◌≤ℤ◌, ◌<ℤ◌, unsigned_abs, int_div}
+use Rattle.std.specs.Prelude.{ℕ, suc, ℤ, pos, negsuc, neg_ℤ, ◌/◌, ◌^◌, ◌+ℤ◌, ◌-ℤ◌, ◌*ℤ◌, ◌≤ℤ◌, ◌<ℤ◌, unsigned_abs, int_div}
 use Rattle.fx_core.specs.declared.quotient.Mode.{Mode}
 use Rattle.fx_core.specs.declared.quotient.Mode.TheVariants.{Zero, Floor, Near}
 
--- r is 0 or has the sign of n
-abbrev pub HasSignOf : ℤ → ℤ → Type 0
-HasSignOf n r = (pos 0 ≤ℤ n → pos 0 ≤ℤ r) × (n ≤ℤ pos 0 → r ≤ℤ pos 0)
-
--- r is n / d rounded toward zero: the greatest absolute value whose product with d is not above that of n, with the sign of n
+-- r is n / d rounded toward zero: for n of at least 0 not above n / d, while the number after it is; for n of at most 0 not
+-- below n / d, while the number before it is
 abbrev pub RoundsTowardZero : ℤ → ℤ → ℤ → Type 0
-RoundsTowardZero n d r = HasSignOf n r × (unsigned_abs r * unsigned_abs d ≤ unsigned_abs n) × ((q : ℕ) → q * unsigned_abs d ≤ unsigned_abs n → q ≤ unsigned_abs r)
+RoundsTowardZero n d r =
+    (pos 0 ≤ℤ n → ((r *ℤ d) ≤ℤ n) × (n <ℤ ((r +ℤ pos 1) *ℤ d)))
+    × (n ≤ℤ pos 0 → (n ≤ℤ (r *ℤ d)) × (((r -ℤ pos 1) *ℤ d) <ℤ n))
 
 -- r is n / d rounded downward: not above n / d, while the number after it is
 abbrev pub RoundsDownward : ℤ → ℤ → ℤ → Type 0

@@ -1,3 +1,4 @@
 pub mod TableRows
 pub mod PartLaws
 pub mod NameLaws
+mod DistinctNames

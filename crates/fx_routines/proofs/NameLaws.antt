@@ -1,20 +1,21 @@
 -- A name is read again as the routine that it is written for, and what is read is what is written.
-use Rattle.std.proofs.Common.{◌≡◌, ℕ, zero, suc, ◌<◌, ◌==◌, Bool, true, false, not, cond, ◌&&◌, List, [], ◌∷◌, ◌++◌, length, find, is_some, slice_index_or, All, IfSome, Option, Some, None, refl, sym, ap, ◌∙◌, subst, arith}
+use Rattle.std.proofs.Common.{◌≡◌, ℕ, zero, suc, ◌<◌, ◌==◌, Bool, true, false, not, cond, ◌&&◌, ◌||◌, inl, inr, List, [], ◌∷◌, ◌++◌, length, find, is_some, slice_index_or, All, IfSome, Option, Some, None, refl, sym, ap, ◌∙◌, subst, arith}
 use Rattle.std.specs.List.{list_all, Any}
-use Rattle.std.proofs.lemmas.Bool.{and_parts}
+use Rattle.std.proofs.lemmas.Bool.{and_parts, or_cases, true≢false}
 use Rattle.std.proofs.lemmas.Bool.Decides.{Decides-eqb}
 use Rattle.std.proofs.lemmas.Option.{option_and_then_some, same_Some}
 use denote.Enum.Bare.{same_true, true_same}
 use Rattle.fx_routines.specs.contracts.operation.ArithOp as arith_op
 use Rattle.fx_routines.specs.contracts.operation.ScaledOp as scaled_op
-use Rattle.fx_routines.specs.declared.operation.Variant.{Variant}
+use Rattle.fx_routines.specs.declared.operation.Types.{Types}
 use Rattle.fx_routines.specs.declared.table.Routine.{Routine}
 use Rattle.fx_routines.specs.declared.table.Routine.TheVariants.{Arith, Scaled, NotBuilt}
-use Rattle.fx_routines.specs.Rows.{Row, rows, routine_of, front_of, parts_of, same_routine}
+use Rattle.fx_routines.specs.Rows.{Row, rows, routine_of, front_of, parts_of, same_routine, is_built}
 use Rattle.fx_routines.specs.Names.{words, fits, is_row_of, row_of, takes, row_name, name_by, routine_name, IsNameOf, all_names}
 use Rattle.fx_routines.specs.Reading.{after, read_parts, row_named, or_else, named_among, named, no_choice}
+use Rattle.fx_routines.specs.Variants.{HasOneWidth}
 use Rattle.fx_routines.specs.Laws.{IsReadAgain, TakesWhatItsNameReads}
-use Rattle.fx_routines.proofs.PartLaws.{after-append, after_gives, are_readable, parts_give, reads_words}
+use Rattle.fx_routines.proofs.PartLaws.{after-append, after_gives, are_readable, keep_width, one_width, parts_give, reads_words}
 
 -- ---- fronts
 
@@ -24,10 +25,10 @@ begins [] ys = true
 begins (x ∷ xs) [] = false
 begins (x ∷ xs) (y ∷ ys) = (x == y) && begins xs ys
 
-abbrev fronts_apart : Row → Row → Bool
+abbrev pub fronts_apart : Row → Row → Bool
 fronts_apart row other = not (begins (front_of row) (front_of other)) && not (begins (front_of other) (front_of row))
 
-abbrev are_apart : List Row → Bool
+abbrev pub are_apart : List Row → Bool
 are_apart [] = true
 are_apart (row ∷ others) = list_all (fronts_apart row) others && are_apart others
 
@@ -51,11 +52,11 @@ none_or (Some x) h = absurd (h x refl)
 
 -- ---- one row
 
-row_reads : (row : Row) (v : Variant) → are_readable (parts_of row) ≡ true → fits (parts_of row) v ≡ true → row_named row (row_name row v) ≡ Some (routine_of row, v)
+pub row_reads : (row : Row) (v : Types) → are_readable (parts_of row) ≡ true → fits (parts_of row) v ≡ true → row_named row (row_name row v) ≡ Some (routine_of row, v)
 unfolding row_named
 row_reads row v readable h = rw (after-append (front_of row) (words (parts_of row) v), reads_words (parts_of row) v readable h) refl
 
-row_gives : (row : Row) (word : List ℕ) (routine : Routine) (v : Variant) → are_readable (parts_of row) ≡ true → row_named row word ≡ Some (routine, v)
+row_gives : (row : Row) (word : List ℕ) (routine : Routine) (v : Types) → are_readable (parts_of row) ≡ true → row_named row word ≡ Some (routine, v)
     → (routine_of row ≡ routine) × (fits (parts_of row) v ≡ true) × (word ≡ row_name row v)
 unfolding row_named
 row_gives row word routine v readable h =
@@ -67,7 +68,7 @@ row_gives row word routine v readable h =
     subst (λ r. (routine_of row ≡ r.0) × (fits (parts_of row) r.1 ≡ true) × (word ≡ row_name row r.1)) same
     (refl, written.1, after_gives (front_of row) word rest e ∙ ap (λ t. front_of row ++ t) written.0)))
 
-row_other : (row other : Row) (rest : List ℕ) → fronts_apart row other ≡ true → row_named row (front_of other ++ rest) ≡ None
+pub row_other : (row other : Row) (rest : List ℕ) → fronts_apart row other ≡ true → row_named row (front_of other ++ rest) ≡ None
 unfolding row_named
 row_other row other rest h =
     let apart = and_parts (not (begins (front_of row) (front_of other))) (not (begins (front_of other) (front_of row))) h in
@@ -81,7 +82,7 @@ all_at p [] h k d lt = absurd (omega arith)
 all_at p (x ∷ xs) h zero d lt = (and_parts (p x) (list_all p xs) h).0
 all_at p (x ∷ xs) h (suc k) d lt = all_at p xs (and_parts (p x) (list_all p xs) h).1 k d (omega arith)
 
-among_at : (rs : List Row) → are_apart rs ≡ true → (k : ℕ) (d : Row) → k < length rs → (rest : List ℕ) (found : Routine × Variant)
+among_at : (rs : List Row) → are_apart rs ≡ true → (k : ℕ) (d : Row) → k < length rs → (rest : List ℕ) (found : Routine × Types)
     → row_named (slice_index_or rs k d) (front_of (slice_index_or rs k d) ++ rest) ≡ Some found
     → named_among rs (front_of (slice_index_or rs k d) ++ rest) ≡ Some found
 among_at [] apart k d lt rest found h = absurd (omega arith)
@@ -91,18 +92,18 @@ among_at (r ∷ rs) apart (suc k) d lt rest found h =
     rw (row_other r (slice_index_or rs k d) rest (all_at (fronts_apart r) rs a.0 k d (omega arith)))
     (among_at rs a.1 k d (omega arith) rest found h)
 
-abbrev Names : Routine → Variant → List ℕ → Row → Type 0
+abbrev Names : Routine → Types → List ℕ → Row → Type 0
 Names routine v word row = (routine_of row ≡ routine) × (fits (parts_of row) v ≡ true) × (word ≡ row_name row v)
 
 later : (r : Row) (rs : List Row) (P : Row → Type 0) → Any P rs → Any P (r ∷ rs)
 later r rs P a = (suc a.0, a.1, omega (arith, a.2), a.3, a.4)
 
-first_gives : (r : Row) (rs : List Row) (word : List ℕ) (routine : Routine) (v : Variant) → are_readable (parts_of r) ≡ true → (o : Option (Routine × Variant)) → row_named r word ≡ o
+first_gives : (r : Row) (rs : List Row) (word : List ℕ) (routine : Routine) (v : Types) → are_readable (parts_of r) ≡ true → (o : Option (Routine × Types)) → row_named r word ≡ o
     → (named_among rs word ≡ Some (routine, v) → Any (Names routine v word) rs) → or_else o (named_among rs word) ≡ Some (routine, v) → Any (Names routine v word) (r ∷ rs)
 first_gives r rs word routine v readable (Some found) e there h = (zero, r, omega arith, refl, row_gives r word routine v readable (e ∙ h))
 first_gives r rs word routine v readable None e there h = later r rs (Names routine v word) (there h)
 
-among_gives : (rs : List Row) (word : List ℕ) (routine : Routine) (v : Variant) → list_all (λ r. are_readable (parts_of r)) rs ≡ true
+among_gives : (rs : List Row) (word : List ℕ) (routine : Routine) (v : Types) → list_all (λ r. are_readable (parts_of r)) rs ≡ true
     → named_among rs word ≡ Some (routine, v) → Any (Names routine v word) rs
 among_gives [] word routine v readable h = absurd (cc)
 among_gives (r ∷ rs) word routine v readable h =
@@ -111,11 +112,11 @@ among_gives (r ∷ rs) word routine v readable h =
 
 -- ---- the table
 
-table_readable : list_all (λ r. are_readable (parts_of r)) rows ≡ true
+pub table_readable : list_all (λ r. are_readable (parts_of r)) rows ≡ true
 unfolding rows
 table_readable = refl
 
-table_apart : are_apart rows ≡ true
+pub table_apart : are_apart rows ≡ true
 unfolding rows
 table_apart = refl
 
@@ -130,11 +131,11 @@ read_again k d lt v h =
     among_at rows table_apart k d lt (words (parts_of row) v) (routine_of row, v)
     (row_reads row v (all_at (λ r. are_readable (parts_of r)) rows table_readable k d lt) h)
 
-pub named_gives : (word : List ℕ) (routine : Routine) (v : Variant) → named word ≡ Some (routine, v) → IsNameOf routine v word
+pub named_gives : (word : List ℕ) (routine : Routine) (v : Types) → named word ≡ Some (routine, v) → IsNameOf routine v word
 unfolding named
 named_gives word routine v h = among_gives rows word routine v table_readable h
 
-pub named-name : (word : List ℕ) (routine : Routine) (v : Variant) → IsNameOf routine v word → named word ≡ Some (routine, v)
+pub named-name : (word : List ℕ) (routine : Routine) (v : Types) → IsNameOf routine v word → named word ≡ Some (routine, v)
 named-name word routine v n =
     let at : slice_index_or rows n.0 n.1 ≡ n.1 = n.3 in
     let read : named (row_name n.1 v) ≡ Some (routine_of n.1, v) =
@@ -180,7 +181,7 @@ find_at p [] k d lt h = absurd (omega arith)
 find_at p (x ∷ xs) zero d lt h = rw h refl
 find_at p (x ∷ xs) (suc k) d lt h = found_once p x xs (p x) (find_at p xs k d (omega arith) h)
 
-taken_by : (routine : Routine) (v : Variant) (o : Option Row) → row_of routine v ≡ o → is_some o ≡ true → named (name_by o v) ≡ Some (routine, v)
+taken_by : (routine : Routine) (v : Types) (o : Option Row) → row_of routine v ≡ o → is_some o ≡ true → named (name_by o v) ≡ Some (routine, v)
 unfolding row_of
 taken_by routine v None e h = absurd (cc)
 taken_by routine v (Some row) e h =
@@ -189,7 +190,7 @@ taken_by routine v (Some row) e h =
     named-name (row_name row v) routine v (f.0, row, f.1, f.2, (same_routine_gives (routine_of row) routine is.0, is.1, refl))
 
 -- a routine takes what some row of it fits
-pub takes_by_row : (routine : Routine) (v : Variant) (k : ℕ) (d : Row) → k < length rows → routine_of (slice_index_or rows k d) ≡ routine → fits (parts_of (slice_index_or rows k d)) v ≡ true → takes routine v ≡ true
+pub takes_by_row : (routine : Routine) (v : Types) (k : ℕ) (d : Row) → k < length rows → routine_of (slice_index_or rows k d) ≡ routine → fits (parts_of (slice_index_or rows k d)) v ≡ true → takes routine v ≡ true
 unfolding row_of
 takes_by_row routine v k d lt e h =
     find_at (is_row_of routine v) rows k d lt (rw (e, same_routine-same routine) h)
@@ -201,11 +202,32 @@ taken_names routine v = (
       takes_by_row routine v n.0 n.1 n.2 (ap routine_of n.3 ∙ n.4.0) (ap (λ r. fits (parts_of r) v) n.3 ∙ n.4.1)),
 )
 
-pub read_is_named : (word : List ℕ) (answer : Option (Routine × Variant)) → answer ≡ named word
+pub read_is_named : (word : List ℕ) (answer : Option (Routine × Types)) → answer ≡ named word
     → IfSome answer (λ found. IsNameOf found.0 found.1 word)
 read_is_named word None e = tt
 read_is_named word (Some found) e = named_gives word found.0 found.1 (sym e)
 
-pub names_are_read : (word : List ℕ) (answer : Option (Routine × Variant)) → answer ≡ named word
-    → (routine : Routine) (v : Variant) → IsNameOf routine v word → answer ≡ Some (routine, v)
+-- the inputs of a built row have one width
+abbrev keeps_one_width : Row → Bool
+keeps_one_width row = not (is_built (routine_of row)) || keep_width (parts_of row)
+
+table_keeps_width : list_all keeps_one_width rows ≡ true
+unfolding rows
+table_keeps_width = refl
+
+pub built_has_one_width : (routine : Routine) (v : Types) (word : List ℕ) → IsNameOf routine v word → is_built routine ≡ true → HasOneWidth v
+built_has_one_width routine v word n built =
+    let keeps : keeps_one_width n.1 ≡ true = ap keeps_one_width (sym n.3) ∙ all_at keeps_one_width rows table_keeps_width n.0 n.1 n.2 in
+    elim (or_cases (not (is_built (routine_of n.1))) (keep_width (parts_of n.1)) keeps) [
+      | inl not_built ↦ absurd (true≢false (sym (ap is_built n.4.0 ∙ built) ∙ not_true _ not_built))
+      | inr same ↦ one_width (parts_of n.1) v same n.4.1
+    ]
+
+pub read_has_one_width : (word : List ℕ) (answer : Option (Routine × Types)) → answer ≡ named word
+    → IfSome answer (λ found. is_built found.0 ≡ true → HasOneWidth found.1)
+read_has_one_width word None e = tt
+read_has_one_width word (Some found) e = built_has_one_width found.0 found.1 word (named_gives word found.0 found.1 (sym e))
+
+pub names_are_read : (word : List ℕ) (answer : Option (Routine × Types)) → answer ≡ named word
+    → (routine : Routine) (v : Types) → IsNameOf routine v word → answer ≡ Some (routine, v)
 names_are_read word answer e routine v n = e ∙ named-name word routine v n

@@ -1,7 +1,7 @@
 -- The rows at their places.
 use Rattle.std.proofs.Common.{◌≡◌, ℕ, zero, suc, ◌+◌, ◌<◌, ◌≤◌, Bool, true, List, [], ◌∷◌, length, map, drop, find, slice_index_or, Some, None, refl, ap, subst, ◌∙◌, Bor, arith, add-one, drop-cons}
 use Rattle.std.proofs.lemmas.List.{drop_all}
-use Rattle.fx_routines.specs.declared.operation.Variant.{Variant}
+use Rattle.fx_routines.specs.declared.operation.Types.{Types}
 use Rattle.fx_routines.specs.declared.shape.Shape.{Shape}
 use Rattle.fx_routines.specs.declared.table.Routine.{Routine}
 use Rattle.fx_routines.specs.Rows.{Row, rows, row_at, IsAt}
@@ -44,7 +44,7 @@ find_here p i lt h = rw (row_here i lt, h) refl
 pub find_none : (p : Row → Bool) (i : ℕ) → 70 ≤ i → find p (drop i rows) ≡ None
 find_none p i h = rw (no_row i h) refl
 
-pub named_here : (i : ℕ) (word : List ℕ) (found : Routine × Variant) → i < 70 → row_named (row_at i) word ≡ Some found → named_among (drop i rows) word ≡ Some found
+pub named_here : (i : ℕ) (word : List ℕ) (found : Routine × Types) → i < 70 → row_named (row_at i) word ≡ Some found → named_among (drop i rows) word ≡ Some found
 named_here i word found lt h = rw (row_here i lt, h) refl
 
 pub named_later : (i : ℕ) (word : List ℕ) → i < 70 → row_named (row_at i) word ≡ None → named_among (drop (i + 1) rows) word ≡ named_among (drop i rows) word

@@ -6,20 +6,20 @@ ghost use Rattle.fx_routines.specs.Names.{fits, has_class, is_first, is_output, 
 ghost use Rattle.fx_routines.specs.Rows.{row_at, same_routine};
 ghost use Rattle.fx_routines.specs.Variants.{belongs, is_signed, same_type};
 
-use crate::operation::Variant;
+use crate::operation::Types;
 use crate::shape::{Class, Part, parts_in};
 use crate::table::{ROWS, Routine, row_at};
 use fx_core::Ty;
 
 /// Whether there is a routine of these types.
-pub fn takes(routine: Routine, v: Variant) -> bool
+pub fn takes(routine: Routine, v: Types) -> bool
     ensures { result ≡ takes routine v }
 {
     place_of(routine, v).is_some()
 }
 
 /// The place of the first row of the routine that `v` fits.
-pub(crate) fn place_of(routine: Routine, v: Variant) -> Option<usize>
+pub(crate) fn place_of(routine: Routine, v: Types) -> Option<usize>
     ensures { MatchOption result (row_of routine v ≡ None) (λ place. (place < 70) × (row_of routine v ≡ Some (row_at place))) }
 {
     for place in 0..ROWS {
@@ -31,7 +31,7 @@ pub(crate) fn place_of(routine: Routine, v: Variant) -> Option<usize>
 }
 
 // Whether the row at the place is one of the routine, and `v` fits it.
-fn is_row_of(place: usize, routine: Routine, v: Variant) -> bool
+fn is_row_of(place: usize, routine: Routine, v: Types) -> bool
     requires { place < 70 }
     ensures { result ≡ is_row_of routine v (row_at place) }
 {
@@ -51,7 +51,7 @@ fn same_routine(a: Routine, b: Routine) -> bool
 }
 
 // Whether names of these parts may have these types.
-fn fits(parts: &[Part], v: Variant) -> bool
+fn fits(parts: &[Part], v: Types) -> bool
     ensures { result ≡ fits parts.now v }
 {
     have_classes(parts, v)
@@ -60,7 +60,7 @@ fn fits(parts: &[Part], v: Variant) -> bool
         && (choose_output(parts) || v.o == v.x)
 }
 
-fn have_classes(parts: &[Part], v: Variant) -> bool
+fn have_classes(parts: &[Part], v: Types) -> bool
     ensures { result ≡ list_all (has_class v) parts.now }
 {
     parts.iter().all(|part| has_class(v, *part))
@@ -85,7 +85,7 @@ fn choose_output(parts: &[Part]) -> bool
 }
 
 // Whether a type that the part chooses is of its class.
-fn has_class(v: Variant, part: Part) -> bool
+fn has_class(v: Types, part: Part) -> bool
     ensures { result ≡ has_class v part }
 {
     match part {

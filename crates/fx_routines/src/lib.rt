@@ -12,7 +12,7 @@ mod writing;
 
 pub use crate::fitting::takes;
 pub use crate::laws::law_of_names;
-pub use crate::operation::{ArithOp, ScaledOp, Variant};
+pub use crate::operation::{ArithOp, ScaledOp, Types, Variant};
 pub use crate::reading::routine_named;
 pub use crate::shape::{Class, Part};
 pub use crate::table::Routine;

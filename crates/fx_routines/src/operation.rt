@@ -2,9 +2,10 @@
 
 ghost use Rattle.std.specs.Prelude.{◌≡◌, ◌↔◌, IfSome, IsSome};
 ghost use Rattle.fx_core.specs.Types.{width_of};
-ghost use Rattle.fx_routines.specs.Variants.{variant};
+ghost use Rattle.fx_routines.specs.Variants.{HasOneWidth, types};
 
 use fx_core::Ty;
+use std::marker::Model;
 
 /// An operation of Mfx arithmetic, on raw counts. The arguments are `x`, `y`, `z` in their order;
 /// each answer is rounded toward zero and saturated to the output's type.
@@ -59,47 +60,85 @@ pub enum ScaledOp {
     Div,
 }
 
-/// The types of a routine: of its first input, its second input and its output. Where there is no
-/// such input or output, the type of the first input stands for it. The inputs of arithmetic have
-/// one width.
+/// The types in a routine's name: of its first input, its second input and its output. Where there
+/// is no such input or output, the type of the first input stands for it.
 #[derive(Clone, Copy, Debug, PartialEq, Eq)]
-pub struct Variant {
+pub struct Types {
     pub x: Ty,
     pub y: Ty,
     pub o: Ty,
+}
+
+/// The types of a routine of arithmetic or of a form with binary points: `x` and `y` have one width.
+#[derive(Clone, Copy, Debug, PartialEq, Eq)]
+pub struct Variant {
+    types: Types,
+}
+
+impl Model for Variant {
+    ghost use Rattle.fx_routines.specs.declared.operation.Types.{Types};
+    ghost use Rattle.fx_routines.specs.Variants.{HasOneWidth};
+
+    ghost Value = { Types };
+
+    ghost view = { λ v. v.types };
+
+    ghost invariant = { λ v. HasOneWidth v.types };
+
+    ghost inverse = { λ types. record { types = types } };
 }
 
 impl Variant {
     /// The variant of these types, and None exactly where the widths of `x` and `y` differ.
     pub fn new(x: Ty, y: Ty, o: Ty) -> Option<Variant>
         ensures one_width { IsSome result ↔ (width_of x ≡ width_of y) }
-        ensures types { IfSome result (λ v. v ≡ variant x y o) }
+        ensures types { IfSome result (λ v. v ≡ types x y o) }
     {
         if x.width() == y.width() {
-            Some(Variant { x, y, o })
+            Some(Variant::of(Types { x, y, o }))
         } else {
             None
         }
     }
 
+    /// The variant of types whose `x` and `y` have one width.
+    pub fn of(types: Types) -> Variant
+        requires { HasOneWidth types }
+        ensures { result ≡ types }
+    {
+        Variant { types }
+    }
+
+    /// Its types as those of a name.
+    #[inline(always)]
+    pub fn types(self) -> Types
+        ensures value { result ≡ self }
+        ensures one_width { HasOneWidth self }
+    {
+        self.types
+    }
+
     /// The type of the first input.
+    #[inline(always)]
     pub fn x(self) -> Ty
         ensures { result ≡ self.x }
     {
-        self.x
+        self.types.x
     }
 
     /// The type of the second input.
+    #[inline(always)]
     pub fn y(self) -> Ty
         ensures { result ≡ self.y }
     {
-        self.y
+        self.types.y
     }
 
     /// The type of the output.
+    #[inline(always)]
     pub fn o(self) -> Ty
         ensures { result ≡ self.o }
     {
-        self.o
+        self.types.o
     }
 }

@@ -1,32 +1,34 @@
 // Reads the names of the routines.
 
-ghost use Rattle.std.specs.Prelude.{◌≡◌, ◌<◌, IfSome, MatchOption, None, Some, length};
-ghost use Rattle.fx_routines.specs.declared.operation.Variant.{Variant};
+ghost use Rattle.std.specs.Prelude.{◌≡◌, ◌<◌, IfSome, IsTrue, MatchOption, None, Some, length};
+ghost use Rattle.fx_routines.specs.declared.operation.Types.{Types};
 ghost use Rattle.fx_routines.specs.declared.table.Routine.{Routine};
 ghost use Rattle.fx_routines.specs.Names.{IsNameOf};
-ghost use Rattle.fx_routines.specs.Rows.{row_at};
+ghost use Rattle.fx_routines.specs.Rows.{is_built, row_at};
 ghost use Rattle.fx_routines.specs.Reading.{after, first_type, if_at_end, if_of_class, named, read_first, read_output, read_part, read_parts, read_second, read_word, row_named, no_choice};
+ghost use Rattle.fx_routines.specs.Variants.{HasOneWidth};
 
 use crate::fitting::belongs;
-use crate::operation::Variant;
+use crate::operation::Types;
 use crate::shape::{Class, Part, parts_in};
 use crate::table::{ROWS, Routine, row_at};
 use crate::writing::{part_word, type_word};
 use fx_core::Ty;
 
 /// The routine that the word names, with its types, and None where it names none. One that isn't
-/// built is `NotBuilt`.
-pub fn routine_named(word: &[u8]) -> Option<(Routine, Variant)>
+/// built is `NotBuilt`; the inputs of one that is have one width.
+pub fn routine_named(word: &[u8]) -> Option<(Routine, Types)>
     ensures value { result ≡ named word.now }
     ensures sound { IfSome result (λ found. IsNameOf found.0 found.1 word.now) }
-    ensures complete { (routine : Routine) (v : Variant) →
+    ensures one_width { IfSome result (λ found. IsTrue (is_built found.0) → HasOneWidth found.1) }
+    ensures complete { (routine : Routine) (v : Types) →
         IsNameOf routine v word.now → result ≡ Some (routine, v) }
 {
     named(word)
 }
 
 // By the first of the rows that reads the word. No front begins another one, so no other row does.
-fn named(word: &[u8]) -> Option<(Routine, Variant)>
+fn named(word: &[u8]) -> Option<(Routine, Types)>
     ensures { result ≡ named word.now }
 {
     for place in 0..ROWS {
@@ -39,7 +41,7 @@ fn named(word: &[u8]) -> Option<(Routine, Variant)>
 
 // By the row at the place.
 #[tactic(auto, unfolding(crate::specs::Reading::row_named))]
-fn row_named(place: usize, word: &[u8]) -> Option<(Routine, Variant)>
+fn row_named(place: usize, word: &[u8]) -> Option<(Routine, Types)>
     requires { place < 70 }
     ensures { result ≡ row_named (row_at place) word.now }
 {
@@ -51,10 +53,10 @@ fn row_named(place: usize, word: &[u8]) -> Option<(Routine, Variant)>
 
 // The types that the text chooses by these parts.
 #[tactic(auto, unfolding(crate::specs::Reading::read_parts))]
-fn read_parts(parts: &[Part], text: &[u8]) -> Option<Variant>
+fn read_parts(parts: &[Part], text: &[u8]) -> Option<Types>
     ensures { result ≡ read_parts parts.now no_choice text.now }
 {
-    let mut v = Variant {
+    let mut v = Types {
         x: Ty::U8,
         y: Ty::U8,
         o: Ty::U8,
@@ -67,7 +69,7 @@ fn read_parts(parts: &[Part], text: &[u8]) -> Option<Variant>
 }
 
 // The types, where nothing is left.
-fn if_at_end(v: Variant, rest: &[u8]) -> Option<Variant>
+fn if_at_end(v: Types, rest: &[u8]) -> Option<Types>
     ensures { result ≡ if_at_end v rest.now }
 {
     match rest {
@@ -77,7 +79,7 @@ fn if_at_end(v: Variant, rest: &[u8]) -> Option<Variant>
 }
 
 #[tactic(auto, unfolding(crate::specs::Reading::read_part))]
-fn read_part(part: Part, v: Variant, text: &[u8]) -> Option<(Variant, &[u8])>
+fn read_part(part: Part, v: Types, text: &[u8]) -> Option<(Types, &[u8])>
     ensures { MatchOption result (read_part part v text.now ≡ None) (λ cut. read_part part v text.now ≡ Some (cut.0, cut.1.now)) }
 {
     match part {
@@ -92,31 +94,31 @@ fn read_part(part: Part, v: Variant, text: &[u8]) -> Option<(Variant, &[u8])>
 }
 
 #[tactic(auto, unfolding(crate::specs::Reading::read_first))]
-fn read_first(class: Class, text: &[u8]) -> Option<(Variant, &[u8])>
+fn read_first(class: Class, text: &[u8]) -> Option<(Types, &[u8])>
     ensures { MatchOption result (read_first class text.now ≡ None) (λ cut. read_first class text.now ≡ Some (cut.0, cut.1.now)) }
 {
     let (x, rest) = first_type(text)?;
-    if_of_class(class, x, Variant { x, y: x, o: x }, rest)
+    if_of_class(class, x, Types { x, y: x, o: x }, rest)
 }
 
 #[tactic(auto, unfolding(crate::specs::Reading::read_second))]
-fn read_second(class: Class, v: Variant, text: &[u8]) -> Option<(Variant, &[u8])>
+fn read_second(class: Class, v: Types, text: &[u8]) -> Option<(Types, &[u8])>
     ensures { MatchOption result (read_second class v text.now ≡ None) (λ cut. read_second class v text.now ≡ Some (cut.0, cut.1.now)) }
 {
     let (y, rest) = first_type(text)?;
-    if_of_class(class, y, Variant { x: v.x, y, o: v.o }, rest)
+    if_of_class(class, y, Types { x: v.x, y, o: v.o }, rest)
 }
 
 #[tactic(auto, unfolding(crate::specs::Reading::read_output))]
-fn read_output(class: Class, v: Variant, text: &[u8]) -> Option<(Variant, &[u8])>
+fn read_output(class: Class, v: Types, text: &[u8]) -> Option<(Types, &[u8])>
     ensures { MatchOption result (read_output class v text.now ≡ None) (λ cut. read_output class v text.now ≡ Some (cut.0, cut.1.now)) }
 {
     let (o, rest) = first_type(text)?;
-    if_of_class(class, o, Variant { x: v.x, y: v.y, o }, rest)
+    if_of_class(class, o, Types { x: v.x, y: v.y, o }, rest)
 }
 
 // The types and what is left, where the type that was just chosen is of its class.
-fn if_of_class(class: Class, ty: Ty, v: Variant, rest: &[u8]) -> Option<(Variant, &[u8])>
+fn if_of_class(class: Class, ty: Ty, v: Types, rest: &[u8]) -> Option<(Types, &[u8])>
     ensures { MatchOption result (if_of_class class ty v rest.now ≡ None) (λ cut. if_of_class class ty v rest.now ≡ Some (cut.0, cut.1.now)) }
 {
     if belongs(class, v.x, ty) {
@@ -127,7 +129,7 @@ fn if_of_class(class: Class, ty: Ty, v: Variant, rest: &[u8]) -> Option<(Variant
 }
 
 #[tactic(auto, unfolding(crate::specs::Reading::read_word))]
-fn read_word<'a>(word: &[u8], v: Variant, text: &'a [u8]) -> Option<(Variant, &'a [u8])>
+fn read_word<'a>(word: &[u8], v: Types, text: &'a [u8]) -> Option<(Types, &'a [u8])>
     ensures { MatchOption result (read_word word.now v text.now ≡ None) (λ cut. read_word word.now v text.now ≡ Some (cut.0, cut.1.now)) }
 {
     let rest = after(word, text)?;

@@ -5,14 +5,14 @@ ghost use Rattle.fx_routines.specs.Names.{part_word, routine_name, row_name, tak
 ghost use Rattle.fx_routines.specs.Rows.{is_built, row_at};
 
 use crate::fitting::place_of;
-use crate::operation::Variant;
+use crate::operation::Types;
 use crate::shape::{Part, parts_in};
 use crate::table::{Routine, row_at};
 use fx_core::Ty;
 use std::alloc::AllocError;
 
 /// Appends the name of the routine at these types. `routine_named` reads it again.
-pub fn push_name(name: &mut Vec<u8>, routine: Routine, v: Variant) -> Result<(), AllocError>
+pub fn push_name(name: &mut Vec<u8>, routine: Routine, v: Types) -> Result<(), AllocError>
     requires taken { IsTrue (takes routine v) }
     requires built { IsTrue (is_built routine) }
     ensures appended { OnOk result (name.new.items ≡ name.old.items ++ routine_name routine v) }
@@ -24,7 +24,7 @@ pub fn push_name(name: &mut Vec<u8>, routine: Routine, v: Variant) -> Result<(),
 }
 
 // Appends the name of the row at the place.
-fn push_row_name(name: &mut Vec<u8>, place: usize, v: Variant) -> Result<(), AllocError>
+fn push_row_name(name: &mut Vec<u8>, place: usize, v: Types) -> Result<(), AllocError>
     requires { place < 70 }
     ensures { OnOk result (name.new.items ≡ name.old.items ++ row_name (row_at place) v) }
 {
@@ -33,7 +33,7 @@ fn push_row_name(name: &mut Vec<u8>, place: usize, v: Variant) -> Result<(), All
     push_words(name, parts_in(shape), v)
 }
 
-fn push_words(name: &mut Vec<u8>, parts: &[Part], v: Variant) -> Result<(), AllocError>
+fn push_words(name: &mut Vec<u8>, parts: &[Part], v: Types) -> Result<(), AllocError>
     ensures { OnOk result (name.new.items ≡ name.old.items ++ words parts.now v) }
 {
     for part in parts {
@@ -43,7 +43,7 @@ fn push_words(name: &mut Vec<u8>, parts: &[Part], v: Variant) -> Result<(), Allo
 }
 
 /// What stands at a part of a name.
-pub(crate) fn part_word(part: Part, v: Variant) -> &'static [u8]
+pub(crate) fn part_word(part: Part, v: Types) -> &'static [u8]
     ensures { result.now ≡ part_word part v }
 {
     match part {

@@ -3,9 +3,10 @@ use Rattle.std.proofs.Common.{◌≡◌, pos, negsuc, refl}
 use Rattle.fx_fraction.specs.Fraction.{whole, plus, minus, times, divided, quotient, lesser, greater, absolute, is_zero}
 use Rattle.fx_core.specs.declared.word_type.Ty.TheVariants.{U8, S8, U16, S16, U32, S32}
 use Rattle.fx_core.specs.Rounding.{rounded}
+use Rattle.fx_core.specs.Values.{value_in}
 use Rattle.fx_routines.specs.declared.operation.ArithOp.TheVariants.{Add, Sub, AbsDiff, Abs, Mul, Div, Mod, MulDiv, MulShRight, DivShLeft, Limit, Min, Max, RateLimiter}
 use Rattle.mfx_arith.specs.Formulas.{remainder}
-use Rattle.mfx_arith.specs.Calls.{arith_value, value_in}
+use Rattle.mfx_arith.specs.Calls.{arith_value}
 
 -- a sum beyond an end of the output gives that end, and fits a wider one
 sum_of_bytes_in_a_byte : arith_value Add U8 (pos 200) (pos 100) (pos 0) 0 ≡ pos 255

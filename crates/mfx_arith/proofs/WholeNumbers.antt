@@ -10,11 +10,11 @@ use Rattle.fx_core.specs.declared.quotient.Mode.TheVariants.{Zero}
 use Rattle.fx_core.specs.declared.word_type.Ty.{Ty}
 use Rattle.fx_core.specs.Types.{greatest_of, least_of, saturated}
 use Rattle.fx_core.specs.Rounding.{power, rounded}
-use Rattle.fx_core.specs.Values.{rounded_fraction}
+use Rattle.fx_core.specs.Values.{rounded_fraction, value_in}
 use Rattle.fx_core.proofs.RoundingLaws.{rounded_by_one}
 use Rattle.fx_routines.specs.declared.operation.ArithOp.TheVariants.{Add, Sub, AbsDiff, Abs, Mul, Div, Mod, MulDiv, MulShRight, DivShLeft, Limit, Min, Max, RateLimiter}
 use Rattle.mfx_arith.specs.Formulas.{remainder}
-use Rattle.mfx_arith.specs.Calls.{arith_value, value_in}
+use Rattle.mfx_arith.specs.Calls.{arith_value}
 use Rattle.mfx_arith.specs.Integers.{quotient_in, whole_in, whole_remainder}
 
 -- ---- the operations of fractions at whole numbers
@@ -70,7 +70,7 @@ unfolding whole_in value_in
 whole_in-saturated t n = ap (saturated t) (rounded-whole n)
 
 -- a fraction's value is that of its rounding
-value_of_rounding : (t : Ty) (f : Fraction) (n : ℤ) → rounded_fraction Zero f ≡ n → value_in t None f ≡ whole_in t n
+value_of_rounding : (t : Ty) (f : Fraction) (n : ℤ) → rounded_fraction Zero f ≡ n → value_in Zero t None f ≡ whole_in t n
 unfolding value_in
 value_of_rounding t f n e = ap (saturated t) e ∙ sym (whole_in-saturated t n)
 
@@ -78,41 +78,41 @@ value_of_rounding t f n e = ap (saturated t) e ∙ sym (whole_in-saturated t n)
 
 pub add_is : (t : Ty) (x y z : ℤ) (shift : ℕ) → arith_value Add t x y z shift ≡ whole_in t (x +ℤ y)
 unfolding arith_value whole_in
-add_is t x y z shift = ap (value_in t None) (plus-whole x y)
+add_is t x y z shift = ap (value_in Zero t None) (plus-whole x y)
 
 pub sub_is : (t : Ty) (x y z : ℤ) (shift : ℕ) → arith_value Sub t x y z shift ≡ whole_in t (x -ℤ y)
 unfolding arith_value whole_in
-sub_is t x y z shift = ap (value_in t None) (minus-whole x y)
+sub_is t x y z shift = ap (value_in Zero t None) (minus-whole x y)
 
 pub abs_diff_is : (t : Ty) (x y z : ℤ) (shift : ℕ) → arith_value AbsDiff t x y z shift ≡ whole_in t (pos (unsigned_abs (x -ℤ y)))
 unfolding arith_value whole_in
-abs_diff_is t x y z shift = ap (value_in t None) (ap absolute (minus-whole x y) ∙ absolute-whole (x -ℤ y))
+abs_diff_is t x y z shift = ap (value_in Zero t None) (ap absolute (minus-whole x y) ∙ absolute-whole (x -ℤ y))
 
 pub abs_is : (t : Ty) (x y z : ℤ) (shift : ℕ) → arith_value Abs t x y z shift ≡ whole_in t (pos (unsigned_abs x))
 unfolding arith_value whole_in
-abs_is t x y z shift = ap (value_in t None) (absolute-whole x)
+abs_is t x y z shift = ap (value_in Zero t None) (absolute-whole x)
 
 pub mul_is : (t : Ty) (x y z : ℤ) (shift : ℕ) → arith_value Mul t x y z shift ≡ whole_in t (x *ℤ y)
 unfolding arith_value whole_in
-mul_is t x y z shift = ap (value_in t None) (times-whole x y)
+mul_is t x y z shift = ap (value_in Zero t None) (times-whole x y)
 
 -- ---- limits
 
 pub min_is : (t : Ty) (x y z : ℤ) (shift : ℕ) → arith_value Min t x y z shift ≡ whole_in t (int_min x y)
 unfolding arith_value whole_in
-min_is t x y z shift = ap (value_in t None) (lesser-whole x y)
+min_is t x y z shift = ap (value_in Zero t None) (lesser-whole x y)
 
 pub max_is : (t : Ty) (x y z : ℤ) (shift : ℕ) → arith_value Max t x y z shift ≡ whole_in t (int_max x y)
 unfolding arith_value whole_in
-max_is t x y z shift = ap (value_in t None) (greater-whole x y)
+max_is t x y z shift = ap (value_in Zero t None) (greater-whole x y)
 
 pub limit_is : (t : Ty) (x y z : ℤ) (shift : ℕ) → arith_value Limit t x y z shift ≡ whole_in t (int_min z (int_max y x))
 unfolding arith_value whole_in
-limit_is t x y z shift = ap (value_in t None) (ap (lesser (whole z)) (greater-whole y x) ∙ lesser-whole z (int_max y x))
+limit_is t x y z shift = ap (value_in Zero t None) (ap (lesser (whole z)) (greater-whole y x) ∙ lesser-whole z (int_max y x))
 
 pub rate_limiter_is : (t : Ty) (x y z : ℤ) (shift : ℕ) → arith_value RateLimiter t x y z shift ≡ whole_in t (int_min (y +ℤ z) (int_max (y -ℤ z) x))
 unfolding arith_value whole_in
-rate_limiter_is t x y z shift = ap (value_in t None) (ap₂ lesser (plus-whole y z) (ap (λ f. greater f (whole x)) (minus-whole y z) ∙ greater-whole (y -ℤ z) x) ∙ lesser-whole (y +ℤ z) (int_max (y -ℤ z) x))
+rate_limiter_is t x y z shift = ap (value_in Zero t None) (ap₂ lesser (plus-whole y z) (ap (λ f. greater f (whole x)) (minus-whole y z) ∙ greater-whole (y -ℤ z) x) ∙ lesser-whole (y +ℤ z) (int_max (y -ℤ z) x))
 
 -- ---- quotients
 
@@ -159,11 +159,11 @@ div_is t x y z shift = refl
 
 pub mul_div_is : (t : Ty) (x y z : ℤ) (shift : ℕ) → arith_value MulDiv t x y z shift ≡ quotient_in t (x *ℤ y) z
 unfolding arith_value quotient_in
-mul_div_is t x y z shift = ap (λ f. value_in t (Some (f, whole z)) (divided f (whole z))) (times-whole x y)
+mul_div_is t x y z shift = ap (λ f. value_in Zero t (Some (f, whole z)) (divided f (whole z))) (times-whole x y)
 
 pub div_sh_left_is : (t : Ty) (x y z : ℤ) (shift : ℕ) → arith_value DivShLeft t x y z shift ≡ quotient_in t (x *ℤ power shift) y
 unfolding arith_value quotient_in
-div_sh_left_is t x y z shift = ap (λ f. value_in t (Some (f, whole y)) (divided f (whole y))) (times-whole x (power shift))
+div_sh_left_is t x y z shift = ap (λ f. value_in Zero t (Some (f, whole y)) (divided f (whole y))) (times-whole x (power shift))
 
 -- two to a power is not 0
 power_not_zero : (k : ℕ) → power k ≡ pos 0 → ⊥
@@ -172,7 +172,7 @@ power_not_zero k h = let p : 0 < 2 ^ k = pow_pos k in absurd (omega (arith, ap u
 pub mul_sh_right_is : (t : Ty) (x y z : ℤ) (shift : ℕ) → arith_value MulShRight t x y z shift ≡ whole_in t (int_div (x *ℤ y) (power shift))
 unfolding arith_value
 mul_sh_right_is t x y z shift =
-    ap (λ f. value_in t None (divided f (whole (power shift)))) (times-whole x y) ∙ value_of_rounding t _ _ (rounded-divided (x *ℤ y) (power shift) (power_not_zero shift))
+    ap (λ f. value_in Zero t None (divided f (whole (power shift)))) (times-whole x y) ∙ value_of_rounding t _ _ (rounded-divided (x *ℤ y) (power shift) (power_not_zero shift))
 
 -- ---- remainders
 
@@ -199,7 +199,7 @@ remainder-whole x (negsuc k) = remainder-other x (negsuc k) (λ h. absurd (cc))
 
 pub modulo_is : (t : Ty) (x y z : ℤ) (shift : ℕ) → arith_value Mod t x y z shift ≡ whole_in t (whole_remainder x y)
 unfolding arith_value whole_in
-modulo_is t x y z shift = ap (value_in t None) (remainder-whole x y)
+modulo_is t x y z shift = ap (value_in Zero t None) (remainder-whole x y)
 
 -- what is stored of a whole number, for the function that stores it
 pub ruleset storing = (whole_in-saturated, to_z-of_z)

@@ -1,16 +1,12 @@
 -- The operations: which variants each takes, and which arguments it has.
 use Rattle.std.specs.Prelude.{◌≡◌, ℕ, ℤ, Bool, true, false, List, [], ◌∷◌, length}
-use Rattle.fx_core.specs.Types.{Holds, width_of}
+use Rattle.fx_core.specs.Types.{Holds}
 use Rattle.fx_core.specs.declared.word_type.Ty.{Ty}
 use Rattle.fx_core.specs.declared.word_type.Ty.TheVariants.{U8, S8, U16, S16, U32, S32}
 use Rattle.fx_routines.specs.declared.operation.ArithOp.{ArithOp}
 use Rattle.fx_routines.specs.declared.operation.ArithOp.TheVariants.{Abs, Mod, MulDiv, Limit, Min, Max, RateLimiter}
 use Rattle.fx_routines.specs.declared.operation.Variant.{Variant}
-pub use Rattle.fx_routines.specs.Variants.{variant}
-
--- the two inputs have one width
-abbrev pub HasOneWidth : Variant → Type 0
-HasOneWidth v = width_of v.x ≡ width_of v.y
+pub use Rattle.fx_routines.specs.Variants.{HasOneWidth, types}
 
 -- both inputs have one type
 abbrev pub HasOneInput : Variant → Type 0
@@ -50,7 +46,7 @@ argument_types other v = v.x ∷ v.y ∷ []
 
 -- how many arguments an operation has, which is the same at all types
 abbrev pub arith_arity : ArithOp → ℕ
-arith_arity op = length (argument_types op (variant U8 U8 U8))
+arith_arity op = length (argument_types op (types U8 U8 U8))
 
 -- an operation is smooth: it takes no remainder
 abbrev pub is_smooth_operation : ArithOp → Bool

@@ -3,7 +3,7 @@
 ghost use Rattle.std.specs.Prelude.{◌≡◌, ◌≤◌};
 ghost use Rattle.fx_core.specs.Types.{Holds};
 ghost use Rattle.mfx_arith.specs.Calls.{arith_value};
-ghost use Rattle.mfx_arith.specs.Operations.{HasArguments, Takes, variant};
+ghost use Rattle.mfx_arith.specs.Operations.{HasArguments, Takes, types};
 
 use crate::limits::{limit, max, min, rate_limiter};
 use crate::quotients::{div, div_sh_left, modulo, mul_div};
@@ -65,12 +65,12 @@ pub fn call(op: ArithOp, v: Variant, x: i64, y: i64, z: i64, sh: u8) -> i64
     ensures { result ≡ arith_value op v.o x y z sh }
 {
     let given = Given { x, y, z, shift: sh };
-    at_native!(v.x, with_first(op, v.y, v.o, given))
+    at_native!(v.x(), with_first(op, v.y(), v.o(), given))
 }
 
 fn with_first<X: FxInt>(op: ArithOp, y: Ty, o: Ty, given: Given) -> i64
-    requires taken { Takes op (variant X.TY y o) }
-    requires arguments { HasArguments op (variant X.TY y o) given.x given.y given.z }
+    requires taken { Takes op (types X.TY y o) }
+    requires arguments { HasArguments op (types X.TY y o) given.x given.y given.z }
     requires shift { given.shift ≤ 15 }
     ensures { result ≡ arith_value op o given.x given.y given.z given.shift }
 {
@@ -78,8 +78,8 @@ fn with_first<X: FxInt>(op: ArithOp, y: Ty, o: Ty, given: Given) -> i64
 }
 
 fn with_inputs<X: FxInt, Y: FxInt>(op: ArithOp, o: Ty, given: Given) -> i64
-    requires taken { Takes op (variant X.TY Y.TY o) }
-    requires arguments { HasArguments op (variant X.TY Y.TY o) given.x given.y given.z }
+    requires taken { Takes op (types X.TY Y.TY o) }
+    requires arguments { HasArguments op (types X.TY Y.TY o) given.x given.y given.z }
     requires shift { given.shift ≤ 15 }
     ensures { result ≡ arith_value op o given.x given.y given.z given.shift }
 {
@@ -87,8 +87,8 @@ fn with_inputs<X: FxInt, Y: FxInt>(op: ArithOp, o: Ty, given: Given) -> i64
 }
 
 fn with_types<X: FxInt, Y: FxInt, Z: FxInt>(op: ArithOp, given: Given) -> i64
-    requires taken { Takes op (variant X.TY Y.TY Z.TY) }
-    requires arguments { HasArguments op (variant X.TY Y.TY Z.TY) given.x given.y given.z }
+    requires taken { Takes op (types X.TY Y.TY Z.TY) }
+    requires arguments { HasArguments op (types X.TY Y.TY Z.TY) given.x given.y given.z }
     requires shift { given.shift ≤ 15 }
     ensures { result ≡ arith_value op Z.TY given.x given.y given.z given.shift }
 {
@@ -104,8 +104,8 @@ fn count<W: FxInt>(word: W) -> i64
 
 #[tactic(auto, unfolding(crate::specs::Calls::arith_value))]
 fn answer<X: FxInt, Y: FxInt, Z: FxInt>(op: ArithOp, given: Given) -> Z
-    requires taken { Takes op (variant X.TY Y.TY Z.TY) }
-    requires arguments { HasArguments op (variant X.TY Y.TY Z.TY) given.x given.y given.z }
+    requires taken { Takes op (types X.TY Y.TY Z.TY) }
+    requires arguments { HasArguments op (types X.TY Y.TY Z.TY) given.x given.y given.z }
     requires shift { given.shift ≤ 15 }
     ensures { Z.wide result ≡ arith_value op Z.TY given.x given.y given.z given.shift }
 {
@@ -129,7 +129,7 @@ fn answer<X: FxInt, Y: FxInt, Z: FxInt>(op: ArithOp, given: Given) -> Z
 
 // The rate limiter at the unsigned type of the width.
 fn with_change<T: FxInt>(given: Given) -> T
-    requires { HasArguments ArithOp.RateLimiter (variant T.TY T.TY T.TY) given.x given.y given.z }
+    requires { HasArguments ArithOp.RateLimiter (types T.TY T.TY T.TY) given.x given.y given.z }
     ensures { T.wide result ≡ arith_value ArithOp.RateLimiter T.TY given.x given.y given.z 0 }
 {
     match T::TY {

@@ -10,5 +10,5 @@ use fx_routines::{ArithOp, Routine, Variant};
 pub fn takes(op: ArithOp, v: Variant) -> bool
     ensures { IsTrue result ↔ Takes op v }
 {
-    fx_routines::takes(Routine::Arith(op), v)
+    fx_routines::takes(Routine::Arith(op), v.types())
 }

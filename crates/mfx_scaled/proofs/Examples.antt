@@ -3,7 +3,7 @@ use Rattle.std.proofs.Common.{◌≡◌, pos, negsuc, refl}
 use Rattle.fx_fraction.specs.Fraction.{whole, over, plus, minus, times, divided, quotient, absolute, is_zero}
 use Rattle.fx_core.specs.declared.word_type.Ty.TheVariants.{U8, S8, U16, S16}
 use Rattle.fx_core.specs.Rounding.{rounded}
-use Rattle.mfx_arith.specs.Calls.{value_in}
+use Rattle.fx_core.specs.Values.{value_in}
 use Rattle.fx_routines.specs.declared.operation.ScaledOp.TheVariants.{Convert, Add, Sub, AbsDiff, Mul, Div}
 use Rattle.mfx_scaled.specs.Calls.{scaled_value}
 use Rattle.mfx_scaled.specs.Formulas.{point_factor}

@@ -12,13 +12,12 @@ use Rattle.fx_core.specs.declared.quotient.Mode.TheVariants.{Zero}
 use Rattle.fx_core.specs.declared.word_type.Ty.{Ty}
 use Rattle.fx_core.specs.Types.{greatest_of, least_of, saturated}
 use Rattle.fx_core.specs.Rounding.{power, rounded, shifted_rounded}
-use Rattle.fx_core.specs.Values.{rounded_fraction}
+use Rattle.fx_core.specs.Values.{rounded_fraction, value_in}
 use Rattle.fx_core.proofs.RoundingLaws.{rounded_by_one}
 use Rattle.std.specs.Int.{w64}
 use Rattle.fx_core.proofs.WordSteps.{plain}
 use Rattle.mfx_scaled.proofs.Sizes.{word}
 use Rattle.fx_core.proofs.TypeLaws.{least-greatest, saturated-held}
-use Rattle.mfx_arith.specs.Calls.{value_in}
 use Rattle.mfx_arith.specs.Integers.{quotient_in}
 use Rattle.mfx_arith.proofs.WholeNumbers.{quotient-by_other, quotient-by_zero, whole_in-saturated}
 use Rattle.fx_routines.specs.declared.operation.ScaledOp.TheVariants.{Convert, Add, Sub, AbsDiff, Mul, Div}
@@ -49,7 +48,7 @@ rounded_is {f} {d} {x} i =
     ∙ int_div-scaled x d (denom f) (omega arith)
 
 -- two names of one fraction have one value
-pub value_is : (t : Ty) {f g : Fraction} {d : ℕ} {x : ℤ} → Is f d x → Is g d x → value_in t None f ≡ value_in t None g
+pub value_is : (t : Ty) {f g : Fraction} {d : ℕ} {x : ℤ} → Is f d x → Is g d x → value_in Zero t None f ≡ value_in Zero t None g
 unfolding value_in
 value_is t i j = ap (saturated t) (rounded_is i ∙ sym (rounded_is j))
 
@@ -112,7 +111,7 @@ is_lowered n m c h =
     subst (Is (times (whole n) (point_factor m c)) (2 ^ (m - c))) (ap (λ k. n *ℤ power k) none ∙ times_one n) (is_whole_at_point n m c m (omega arith) h)
 
 -- a fraction's value is that of a count where the two are one over a denominator
-count_of : (t : Ty) {f : Fraction} (n : ℤ) (m c : ℕ) → c ≤ m → Is f (2 ^ (m - c)) n → value_in t None f ≡ count_in t n m c
+count_of : (t : Ty) {f : Fraction} (n : ℤ) (m c : ℕ) → c ≤ m → Is f (2 ^ (m - c)) n → value_in Zero t None f ≡ count_in t n m c
 unfolding count_in
 count_of t n m c h i = value_is t i (is_lowered n m c h)
 
@@ -192,20 +191,20 @@ sign_is (pos f) (negsuc x) d e p q h = let some : 0 < suc x * e = mul-pos (omega
 sign_is (negsuc f) (pos x) d e p q h = let some : 0 < suc f * d = mul-pos (omega arith) p in absurd (omega (arith, ints, h))
 sign_is (negsuc f) (negsuc x) d e p q h = refl
 
-quotient_by_zero : (t : Ty) {f g : Fraction} {d : ℕ} {x : ℤ} → Is f d x → Is g d (pos 0) → value_in t (Some (f, g)) (divided f g) ≡ quotient_in t x (pos 0)
+quotient_by_zero : (t : Ty) {f g : Fraction} {d : ℕ} {x : ℤ} → Is f d x → Is g d (pos 0) → value_in Zero t (Some (f, g)) (divided f g) ≡ quotient_in t x (pos 0)
 unfolding value_in
 quotient_by_zero t {f} {g} {d} {x} i j =
     let sign = sign_is f.numer x d (denom f) i.positive (omega arith) i.equal in
     rw (zero_in refl j, sign) (sym (quotient-by_zero t x (pos 0) refl))
 
-quotient_by_other : (t : Ty) {f g : Fraction} {d : ℕ} {x y : ℤ} (zero : Bool) → is_zero g ≡ zero → (y ≡ pos 0 → ⊥) → Is f d x → Is g d y → value_in t (Some (f, g)) (divided f g) ≡ quotient_in t x y
+quotient_by_other : (t : Ty) {f g : Fraction} {d : ℕ} {x y : ℤ} (zero : Bool) → is_zero g ≡ zero → (y ≡ pos 0 → ⊥) → Is f d x → Is g d y → value_in Zero t (Some (f, g)) (divided f g) ≡ quotient_in t x y
 unfolding value_in
 quotient_by_other t true e h i j = absurd (h (zero_out e j))
 quotient_by_other t {f} {g} {d} {x} {y} false e h i j =
     rw e (ap (saturated t) (rounded_is (is_divided_signed y (not_zero_out e j) i j) ∙ int_div-with_sign x y h) ∙ sym (quotient-by_other_nearest t x y h))
 
 -- the quotient of two fractions over one denominator is that of their numerators
-pub quotient_is : (t : Ty) {f g : Fraction} {d : ℕ} {x : ℤ} (y : ℤ) → Is f d x → Is g d y → value_in t (Some (f, g)) (divided f g) ≡ quotient_in t x y
+pub quotient_is : (t : Ty) {f g : Fraction} {d : ℕ} {x : ℤ} (y : ℤ) → Is f d x → Is g d y → value_in Zero t (Some (f, g)) (divided f g) ≡ quotient_in t x y
 quotient_is t (pos zero) i j = quotient_by_zero t i j
 quotient_is t (pos (suc k)) i j = quotient_by_other t _ refl (λ h. absurd (cc)) i j
 quotient_is t (negsuc k) i j = quotient_by_other t _ refl (λ h. absurd (cc)) i j

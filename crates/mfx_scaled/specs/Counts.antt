@@ -2,8 +2,9 @@
 use Rattle.std.specs.Prelude.{ℕ, ◌-◌, ℤ, ◌*ℤ◌, None}
 use Rattle.fx_fraction.specs.Fraction.{whole, times}
 use Rattle.fx_core.specs.Rounding.{power}
+use Rattle.fx_core.specs.Values.{value_in}
+use Rattle.fx_core.specs.declared.quotient.Mode.TheVariants.{Zero}
 use Rattle.fx_core.specs.declared.word_type.Ty.{Ty}
-use Rattle.mfx_arith.specs.Calls.{value_in}
 use Rattle.mfx_scaled.specs.Formulas.{point_factor}
 
 -- the count at a point that isn't lower
@@ -12,4 +13,4 @@ raised n from to = n *ℤ power (to - from)
 
 -- the value in a type of a count from one point at another
 unfoldable pub count_in : Ty → ℤ → ℕ → ℕ → ℤ
-count_in t n from to = value_in t None (times (whole n) (point_factor from to))
+count_in t n from to = value_in Zero t None (times (whole n) (point_factor from to))

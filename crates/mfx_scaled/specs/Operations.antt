@@ -3,7 +3,7 @@ use Rattle.std.specs.Prelude.{ℕ, ℤ, List, [], ◌∷◌, length}
 use Rattle.fx_core.specs.declared.word_type.Ty.{Ty}
 use Rattle.fx_core.specs.declared.word_type.Ty.TheVariants.{U8}
 use Rattle.fx_routines.specs.declared.operation.Variant.{Variant}
-use Rattle.mfx_arith.specs.Operations.{AreHeld, variant}
+use Rattle.mfx_arith.specs.Operations.{AreHeld, types}
 use Rattle.fx_routines.specs.declared.operation.ScaledOp.{ScaledOp}
 use Rattle.fx_routines.specs.declared.operation.ScaledOp.TheVariants.{Convert}
 
@@ -14,7 +14,7 @@ argument_types other v = v.x ∷ v.y ∷ []
 
 -- how many arguments a form has, which is the same at all types
 abbrev pub scaled_arity : ScaledOp → ℕ
-scaled_arity op = length (argument_types op (variant U8 U8 U8))
+scaled_arity op = length (argument_types op (types U8 U8 U8))
 
 -- each argument that the form has is a number of its type; a number that it doesn't have is not looked at
 abbrev pub HasArguments : ScaledOp → Variant → ℤ → ℤ → Type 0

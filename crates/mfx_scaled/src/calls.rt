@@ -23,11 +23,11 @@ pub fn call(op: ScaledOp, v: Variant, x: i64, y: i64, p: Points) -> i64
     let first = exact(x, p.a);
     let second = exact(y, p.b);
     match op {
-        ScaledOp::Convert => first.converted(v.o, p.c),
-        ScaledOp::Add => first.plus(second, p.c).stored(v.o, p.c),
-        ScaledOp::Sub => first.minus(second, p.c).stored(v.o, p.c),
-        ScaledOp::AbsDiff => first.minus(second, p.c).absolute().stored(v.o, p.c),
-        ScaledOp::Mul => first.times(second).stored(v.o, p.c),
-        ScaledOp::Div => first.over(second, v.o, p.c),
+        ScaledOp::Convert => first.converted(v.o(), p.c),
+        ScaledOp::Add => first.plus(second, p.c).stored(v.o(), p.c),
+        ScaledOp::Sub => first.minus(second, p.c).stored(v.o(), p.c),
+        ScaledOp::AbsDiff => first.minus(second, p.c).absolute().stored(v.o(), p.c),
+        ScaledOp::Mul => first.times(second).stored(v.o(), p.c),
+        ScaledOp::Div => first.over(second, v.o(), p.c),
     }
 }

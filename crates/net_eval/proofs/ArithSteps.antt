@@ -5,13 +5,14 @@ use Rattle.fx_fraction.specs.Fraction.{Fraction, whole}
 use Rattle.fx_core.specs.declared.word_type.Ty.{Ty}
 use Rattle.fx_core.specs.declared.quotient.Mode.TheVariants.{Zero}
 use Rattle.fx_core.specs.Types.{Holds, least_of, greatest_of}
-use Rattle.fx_core.specs.Values.{value_between}
+use Rattle.fx_core.specs.Arguments.{three}
+use Rattle.fx_core.specs.Values.{value_between, value_in}
 use Rattle.fx_routines.specs.declared.operation.ArithOp.{ArithOp}
 use Rattle.fx_routines.specs.declared.operation.ArithOp.TheVariants.{Add, Abs, MulDiv, Limit, Min, Max, RateLimiter}
 use Rattle.fx_routines.specs.declared.operation.Variant.{Variant}
 use Rattle.mfx_arith.specs.Operations.{argument_types, AreHeld, HasArguments}
 use Rattle.mfx_arith.specs.Formulas.{arith_formula, quotient_of}
-use Rattle.mfx_arith.specs.Calls.{three_given, value_in, arith_value}
+use Rattle.mfx_arith.specs.Calls.{arith_value}
 use Rattle.net_model.specs.declared.wires.Kind.{Kind}
 use Rattle.net_model.specs.declared.wires.Kind.TheVariants.{Num}
 use Rattle.net_model.specs.Wires.{kind_least, kind_greatest}
@@ -42,11 +43,11 @@ arguments_held op v x y z h k l = held_types (argument_types op v) x y z (few_ty
 -- ---- the value
 
 -- a formula reads no more than three arguments
-formula_reads : (op : ArithOp) (sh : ℕ) (m : ℕ → ℤ) → arith_formula op sh (three_given (m 0) (m 1) (m 2)) ≡ arith_formula op sh (λ p. whole (m p))
+formula_reads : (op : ArithOp) (sh : ℕ) (m : ℕ → ℤ) → arith_formula op sh (three (whole (m 0)) (whole (m 1)) (whole (m 2))) ≡ arith_formula op sh (λ p. whole (m p))
 formula_reads Add sh m = refl
 formula_reads other sh m = refl
 
-quotient_reads : (op : ArithOp) (sh : ℕ) (m : ℕ → ℤ) → quotient_of op sh (three_given (m 0) (m 1) (m 2)) ≡ quotient_of op sh (λ p. whole (m p))
+quotient_reads : (op : ArithOp) (sh : ℕ) (m : ℕ → ℤ) → quotient_of op sh (three (whole (m 0)) (whole (m 1)) (whole (m 2))) ≡ quotient_of op sh (λ p. whole (m p))
 quotient_reads Add sh m = refl
 quotient_reads other sh m = refl
 

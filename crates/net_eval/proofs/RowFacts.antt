@@ -8,9 +8,10 @@ use Rattle.std.proofs.lemmas.List.Recursion.{is_count_by}
 use Rattle.std.proofs.Math.ListN.{get_or-map}
 use Rattle.fx_core.specs.declared.word_type.Ty.{Ty}
 use Rattle.fx_core.specs.Types.{Holds}
+use Rattle.fx_core.specs.Values.{value_in}
 use Rattle.fx_core.proofs.TypeLaws.{saturated_held}
 use Rattle.mfx_arith.specs.Operations.{argument_types}
-use Rattle.mfx_arith.specs.Calls.{value_in, arith_value}
+use Rattle.mfx_arith.specs.Calls.{arith_value}
 use Rattle.mfx_scaled.specs.Calls.{scaled_value}
 use Rattle.mfx_scaled.specs.Operations.{argument_types as scaled_types}
 use Rattle.net_model.specs.declared.wires.WireNo.{WireNo}

@@ -5,15 +5,15 @@ use Rattle.fx_fraction.specs.Fraction.{Fraction, whole}
 use Rattle.fx_core.specs.declared.word_type.Ty.{Ty}
 use Rattle.fx_core.specs.declared.quotient.Mode.TheVariants.{Zero}
 use Rattle.fx_core.specs.Types.{Holds, least_of, greatest_of}
-use Rattle.fx_core.specs.Values.{value_between}
+use Rattle.fx_core.specs.Arguments.{two}
+use Rattle.fx_core.specs.Values.{value_between, value_in}
 use Rattle.fx_routines.specs.declared.operation.Variant.{Variant}
-use Rattle.mfx_arith.specs.Calls.{value_in}
 use Rattle.fx_routines.specs.declared.operation.ScaledOp.{ScaledOp}
 use Rattle.fx_routines.specs.declared.operation.ScaledOp.TheVariants.{Convert, Div}
 use Rattle.mfx_scaled.specs.declared.binary_points.Points.{Points}
 use Rattle.mfx_scaled.specs.Operations.{argument_types, HasArguments}
 use Rattle.mfx_scaled.specs.Formulas.{scaled_formula, quotient_of}
-use Rattle.mfx_scaled.specs.Calls.{two_given, scaled_value}
+use Rattle.mfx_scaled.specs.Calls.{scaled_value}
 use Rattle.net_model.specs.declared.wires.Kind.{Kind}
 use Rattle.net_model.specs.declared.wires.Kind.TheVariants.{Num}
 use Rattle.net_model.specs.Wires.{kind_least, kind_greatest}
@@ -24,11 +24,11 @@ scaled_arguments_held Convert v x y h k = (h, tt)
 scaled_arguments_held other v x y h k = (h, (k, tt))
 
 -- a formula reads no more than two arguments
-formula_reads : (op : ScaledOp) (points : Points) (m : ℕ → ℤ) → scaled_formula op points (two_given (m 0) (m 1)) ≡ scaled_formula op points (λ p. whole (m p))
+formula_reads : (op : ScaledOp) (points : Points) (m : ℕ → ℤ) → scaled_formula op points (two (whole (m 0)) (whole (m 1))) ≡ scaled_formula op points (λ p. whole (m p))
 formula_reads Convert points m = refl
 formula_reads other points m = refl
 
-quotient_reads : (op : ScaledOp) (points : Points) (m : ℕ → ℤ) → quotient_of op points (two_given (m 0) (m 1)) ≡ quotient_of op points (λ p. whole (m p))
+quotient_reads : (op : ScaledOp) (points : Points) (m : ℕ → ℤ) → quotient_of op points (two (whole (m 0)) (whole (m 1))) ≡ quotient_of op points (λ p. whole (m p))
 quotient_reads Div points m = refl
 quotient_reads other points m = refl
 

@@ -34,11 +34,11 @@ pub fn argument_types(op: ArithOp, v: Variant) -> ArgumentTypes
     ensures z { result.z ≡ slice_get (argument_types op v) 2 }
 {
     let (x, y, z) = match op {
-        ArithOp::Abs => (v.x, None, None),
-        ArithOp::MulDiv => (v.x, Some(v.y), Some(v.y)),
-        ArithOp::Limit => (v.o, Some(v.o), Some(v.o)),
-        ArithOp::Min | ArithOp::Max => (v.o, Some(v.o), None),
-        ArithOp::RateLimiter => (v.o, Some(v.o), Some(unsigned_of(v.o))),
+        ArithOp::Abs => (v.x(), None, None),
+        ArithOp::MulDiv => (v.x(), Some(v.y()), Some(v.y())),
+        ArithOp::Limit => (v.o(), Some(v.o()), Some(v.o())),
+        ArithOp::Min | ArithOp::Max => (v.o(), Some(v.o()), None),
+        ArithOp::RateLimiter => (v.o(), Some(v.o()), Some(unsigned_of(v.o()))),
         ArithOp::Add
         | ArithOp::Sub
         | ArithOp::AbsDiff
@@ -46,7 +46,7 @@ pub fn argument_types(op: ArithOp, v: Variant) -> ArgumentTypes
         | ArithOp::Div
         | ArithOp::Mod
         | ArithOp::MulShRight
-        | ArithOp::DivShLeft => (v.x, Some(v.y), None),
+        | ArithOp::DivShLeft => (v.x(), Some(v.y()), None),
     };
     ArgumentTypes { x: Some(x), y, z }
 }
@@ -87,10 +87,10 @@ pub fn scaled_types(op: ScaledOp, v: Variant) -> ArgumentTypes
 {
     let y = match op {
         ScaledOp::Convert => None,
-        _ => Some(v.y),
+        _ => Some(v.y()),
     };
     ArgumentTypes {
-        x: Some(v.x),
+        x: Some(v.x()),
         y,
         z: None,
     }

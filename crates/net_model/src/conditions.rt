@@ -59,8 +59,8 @@ fn takes_block(block: Block) -> bool
     ensures { result ≡ takes_block block }
 {
     match block {
-        Block::Arith { op, v, .. } => takes(Routine::Arith(op), v),
-        Block::Scaled { op, v, .. } => takes(Routine::Scaled(op), v),
+        Block::Arith { op, v, .. } => takes(Routine::Arith(op), v.types()),
+        Block::Scaled { op, v, .. } => takes(Routine::Scaled(op), v.types()),
     }
 }
 
@@ -69,8 +69,8 @@ fn output_type(block: Block) -> Ty
     ensures { result ≡ output_type block }
 {
     match block {
-        Block::Arith { v, .. } => v.o,
-        Block::Scaled { v, .. } => v.o,
+        Block::Arith { v, .. } => v.o(),
+        Block::Scaled { v, .. } => v.o(),
     }
 }
 
@@ -85,11 +85,11 @@ pub fn has_good_numbers(block: Block) -> bool
 }
 
 /// Whether each argument that the routine of wire `i` has is an earlier wire.
-pub fn reads_earlier(i: usize, block: Block) -> bool
-    ensures { result ≡ reads_earlier i block }
+pub fn reads_earlier(i: usize, block: &Block) -> bool
+    ensures { result ≡ reads_earlier i block.now }
 {
-    let types = types_read(block);
-    let Arguments { x, y, z } = arguments_of(block);
+    let types = types_read(*block);
+    let Arguments { x, y, z } = arguments_of(*block);
     is_earlier(i, types.x, x) && is_earlier(i, types.y, y) && is_earlier(i, types.z, z)
 }
 
@@ -103,17 +103,17 @@ fn is_earlier(i: usize, ty: Option<Ty>, argument: WireNo) -> bool
 }
 
 /// Whether the types of a block, of its arguments and of its wire agree.
-pub fn agrees(wires: &[Wire], kind: Kind, block: Block) -> bool
-    ensures { result ≡ agrees wires.now kind block }
+pub fn agrees(wires: &[Wire], kind: Kind, block: &Block) -> bool
+    ensures { result ≡ agrees wires.now kind block.now }
 {
-    takes_block(block) && arguments_agree(wires, block) && is_number_of(output_type(block), kind)
+    takes_block(*block) && arguments_agree(wires, block) && is_number_of(output_type(*block), kind)
 }
 
-fn arguments_agree(wires: &[Wire], block: Block) -> bool
-    ensures { result ≡ arguments_agree wires.now block }
+fn arguments_agree(wires: &[Wire], block: &Block) -> bool
+    ensures { result ≡ arguments_agree wires.now block.now }
 {
-    let types = types_read(block);
-    let Arguments { x, y, z } = arguments_of(block);
+    let types = types_read(*block);
+    let Arguments { x, y, z } = arguments_of(*block);
     argument_agrees(wires, x, types.x, x)
         && argument_agrees(wires, x, types.y, y)
         && argument_agrees(wires, x, types.z, z)

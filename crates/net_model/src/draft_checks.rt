@@ -110,7 +110,7 @@ fn item_reads_earlier(i: usize, item: Item) -> bool
 {
     match item {
         Item::Input { .. } | Item::Const { .. } => true,
-        Item::Block(block) => reads_earlier(i, block),
+        Item::Block(block) => reads_earlier(i, &block),
     }
 }
 
@@ -119,7 +119,7 @@ fn item_agrees(wires: &[Wire], kind: Kind, item: Item) -> bool
 {
     match item {
         Item::Input { .. } | Item::Const { .. } => true,
-        Item::Block(block) => agrees(wires, kind, block),
+        Item::Block(block) => agrees(wires, kind, &block),
     }
 }
 

@@ -2,7 +2,7 @@
 use Rattle.std.specs.Prelude.{ℕ, Bool, true, false, List, length, ok_or, Result, Ok, Err, if◌then◌else◌}
 use Rattle.text_words.specs.Steps.{◌>>=◌}
 use Rattle.fx_core.specs.declared.word_type.Ty.{Ty}
-use Rattle.fx_routines.specs.declared.operation.Variant.{Variant}
+use Rattle.fx_routines.specs.declared.operation.Types.{Types}
 use Rattle.fx_routines.specs.declared.table.Routine.{Routine as Named}
 use Rattle.fx_routines.specs.declared.table.Routine.TheVariants.{Arith as NamedArith, Scaled as NamedScaled, NotBuilt as Unbuilt}
 use Rattle.fx_routines.specs.Reading.{named}
@@ -27,10 +27,10 @@ abbrev pub if_built : Routine → Result Routine NetKind
 if_built routine = if is_built_routine routine then Ok routine else Err NotBuilt
 
 -- a routine at its types
-abbrev pub built_at : Named → Variant → Result Routine NetKind
-built_at (NamedArith op) v = if_built (ArithOf op v)
-built_at (NamedScaled op) v = if_built (ScaledOf op v)
-built_at Unbuilt v = Err NotBuilt
+abbrev pub built_at : Named → Types → Result Routine NetKind
+built_at (NamedArith op) types = if_built (ArithOf op types)
+built_at (NamedScaled op) types = if_built (ScaledOf op types)
+built_at Unbuilt types = Err NotBuilt
 
 -- the routine of a name: no routine has the name, or it isn't built
 unfoldable pub routine_at : List ℕ → Result Routine NetKind

@@ -112,25 +112,25 @@ fn wire_line(text: &[u8], wires: &[Wire], line: &[u8]) -> Result<Content, NetKin
     demand!(is_type(word_at(line, 2)), NetKind::BadType);
     let routine = routine_at(word_at(line, 4))?;
     demand!(
-        count_words(line) == words_wanted(routine),
+        count_words(line) == words_wanted(&routine),
         NetKind::BadCount
     );
-    demand!(are_known(text, wires, routine, line), NetKind::UnknownName);
+    demand!(are_known(text, wires, &routine, line), NetKind::UnknownName);
     demand!(axis_is_reached(wires, word_at(line, 2)), NetKind::LaterWire);
-    given_line(wires, routine, line)
+    given_line(wires, &routine, line)
 }
 
 // What a wire line gives once its form and its names are tested.
-fn given_line(wires: &[Wire], routine: Routine, line: &[u8]) -> Result<Content, NetKind>
+fn given_line(wires: &[Wire], routine: &Routine, line: &[u8]) -> Result<Content, NetKind>
     requires { length wires.now ≤ 512 }
-    ensures value { result ≡ given_line wires.now routine (words_of line.now) }
+    ensures value { result ≡ given_line wires.now routine.now (words_of line.now) }
     ensures room { OnOk result (length wires.now < 512) }
 {
-    let given = arguments_of(wires, routine, line)?;
-    let kind = agreed(wires, block_of(routine, given, 0), word_at(line, 2))?;
+    let given = arguments_of(wires, *routine, line)?;
+    let kind = agreed(wires, block_of(*routine, given, 0), word_at(line, 2))?;
     let sh = shift_of(routine, line)?;
     demand!(wires.len() < MOST_WIRES, NetKind::TooMany);
-    let item = Item::Block(block_of(routine, given, sh));
+    let item = Item::Block(block_of(*routine, given, sh));
     Ok(Content { kind, item })
 }
 
@@ -210,10 +210,10 @@ pub fn out_line(
     Ok(WireNo(place as u32))
 }
 
-fn words_wanted(routine: Routine) -> usize
-    ensures { result ≡ words_wanted routine }
+fn words_wanted(routine: &Routine) -> usize
+    ensures { result ≡ words_wanted routine.now }
 {
-    FIRST_ARGUMENT + arity_of(routine) + usize::from(is_shifting(routine))
+    FIRST_ARGUMENT + arity_of(*routine) + usize::from(is_shifting(*routine))
 }
 
 // At least six words, of which the fourth is `=`.
@@ -267,10 +267,10 @@ fn argument_word(line: &[u8], place: usize, ty: Option<Ty>) -> &[u8]
     }
 }
 
-fn are_known(text: &[u8], wires: &[Wire], routine: Routine, line: &[u8]) -> bool
-    ensures { result ≡ are_known (lines_of text.now) wires.now routine (words_of line.now) }
+fn are_known(text: &[u8], wires: &[Wire], routine: &Routine, line: &[u8]) -> bool
+    ensures { result ≡ are_known (lines_of text.now) wires.now routine.now (words_of line.now) }
 {
-    let types = types_of(routine);
+    let types = types_of(*routine);
     axis_is_known(text, wires, word_at(line, 2))
         && is_known(text, wires, argument_word(line, 0, types.x))
         && is_known(text, wires, argument_word(line, 1, types.y))
@@ -361,11 +361,11 @@ fn value_of(kind: Kind, word: &[u8]) -> Result<Item, NetKind>
 
 // The count of places, which stands behind the wires of a routine that shifts; 0 where it doesn't.
 #[tactic(auto, unfolding(crate::specs::Forms::shift_of))]
-fn shift_of(routine: Routine, line: &[u8]) -> Result<u8, NetKind>
-    ensures { result ≡ shift_of routine (words_of line.now) }
+fn shift_of(routine: &Routine, line: &[u8]) -> Result<u8, NetKind>
+    ensures { result ≡ shift_of routine.now (words_of line.now) }
 {
-    if is_shifting(routine) {
-        places_at(word_at(line, FIRST_ARGUMENT + arity_of(routine)))
+    if is_shifting(*routine) {
+        places_at(word_at(line, FIRST_ARGUMENT + arity_of(*routine)))
     } else {
         Ok(0)
     }
@@ -417,6 +417,6 @@ fn agreed(wires: &[Wire], block: Block, word: &[u8]) -> Result<Kind, NetKind>
     let Some(kind) = kind_of(word) else {
         return Err(NetKind::TypeDiffers);
     };
-    demand!(agrees(wires, kind, block), NetKind::TypeDiffers);
+    demand!(agrees(wires, kind, &block), NetKind::TypeDiffers);
     Ok(kind)
 }

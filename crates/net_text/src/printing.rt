@@ -67,7 +67,7 @@ fn push_wire(text: &mut Vec<u8>, wires: &[Wire], wire: &Wire) -> Result<(), Allo
     match wire.item {
         Item::Input { lo, hi } => push_input(text, name, wire.kind, lo, hi),
         Item::Const { value } => push_const(text, name, wire.kind, value),
-        Item::Block(block) => push_block(text, wires, name, wire.kind, block),
+        Item::Block(block) => push_block(text, wires, name, wire.kind, &block),
     }
 }
 
@@ -97,13 +97,13 @@ fn push_block(
     wires: &[Wire],
     name: &[u8],
     kind: Kind,
-    block: Block,
+    block: &Block,
 ) -> Result<(), AllocError>
-    requires { takes_block block ≡ true }
-    ensures { OnOk result (text.new.items ≡ text.old.items ++ 10 ∷ spaced (codes "wire" ∷ name.now ∷ kind_word kind ∷ codes "=" ∷ block_name block ∷ (argument_words wires.now block ++ shift_words block))) }
+    requires { takes_block block.now ≡ true }
+    ensures { OnOk result (text.new.items ≡ text.old.items ++ 10 ∷ spaced (codes "wire" ∷ name.now ∷ kind_word kind ∷ codes "=" ∷ block_name block.now ∷ (argument_words wires.now block.now ++ shift_words block.now))) }
 {
     push_front(text, b"wire", name, kind)?;
-    push_routine(text, block)?;
+    push_routine(text, *block)?;
     push_given(text, wires, block)
 }
 
@@ -124,18 +124,18 @@ fn push_routine(text: &mut Vec<u8>, block: Block) -> Result<(), AllocError>
 {
     push_piece(text, b' ', b"= ")?;
     match block {
-        Block::Arith { op, v, .. } => push_name(text, Named::Arith(op), v),
-        Block::Scaled { op, v, .. } => push_name(text, Named::Scaled(op), v),
+        Block::Arith { op, v, .. } => push_name(text, Named::Arith(op), v.types()),
+        Block::Scaled { op, v, .. } => push_name(text, Named::Scaled(op), v.types()),
     }
 }
 
 // Appends what a block is given: its wires, and a count of places where its routine has one.
 #[tactic(auto, using(crate::proofs::PrintedPieces::behind_spaces_append))]
-fn push_given(text: &mut Vec<u8>, wires: &[Wire], block: Block) -> Result<(), AllocError>
-    ensures { OnOk result (text.new.items ≡ text.old.items ++ behind_spaces (argument_words wires.now block ++ shift_words block)) }
+fn push_given(text: &mut Vec<u8>, wires: &[Wire], block: &Block) -> Result<(), AllocError>
+    ensures { OnOk result (text.new.items ≡ text.old.items ++ behind_spaces (argument_words wires.now block.now ++ shift_words block.now)) }
 {
-    push_arguments(text, wires, block)?;
-    push_shift(text, block)
+    push_arguments(text, wires, *block)?;
+    push_shift(text, *block)
 }
 
 // Appends the names of the wires that a block reads, each behind a space.

@@ -1,8 +1,10 @@
 // Reads the names of routines.
-ghost use Rattle.std.specs.Prelude.{◌≡◌, ◌≤◌, slice_get};
+ghost use Rattle.std.specs.Prelude.{◌≡◌, ◌≤◌, IsTrue, slice_get};
+ghost use Rattle.fx_routines.specs.Rows.{is_built};
+ghost use Rattle.fx_routines.specs.Variants.{HasOneWidth};
 ghost use Rattle.net_text.specs.RoutineWords.{arity_of, block_of, built_at, if_built, is_built_routine, is_shifting, routine_at, types_of};
 
-use fx_routines::{Routine as Named, routine_named};
+use fx_routines::{Routine as Named, Types, routine_named};
 use mfx_arith::{ArithOp, Variant};
 use mfx_scaled::ScaledOp;
 use net_model::{
@@ -30,17 +32,18 @@ pub fn routine_at(word: &[u8]) -> Result<Routine, NetKind>
     ensures { result ≡ routine_at word.now }
 {
     match routine_named(word) {
-        Some((routine, v)) => built_at(routine, v),
+        Some((routine, types)) => built_at(routine, types),
         None => Err(NetKind::UnknownRoutine),
     }
 }
 
-fn built_at(routine: Named, v: Variant) -> Result<Routine, NetKind>
-    ensures { result ≡ built_at routine v }
+fn built_at(routine: Named, types: Types) -> Result<Routine, NetKind>
+    requires { IsTrue (is_built routine) → HasOneWidth types }
+    ensures { result ≡ built_at routine types }
 {
     match routine {
-        Named::Arith(op) => if_built(Routine::ArithOf(op, v)),
-        Named::Scaled(op) => if_built(Routine::ScaledOf(op, v)),
+        Named::Arith(op) => if_built(Routine::ArithOf(op, Variant::of(types))),
+        Named::Scaled(op) => if_built(Routine::ScaledOf(op, Variant::of(types))),
         Named::NotBuilt => Err(NetKind::NotBuilt),
     }
 }
@@ -48,18 +51,18 @@ fn built_at(routine: Named, v: Variant) -> Result<Routine, NetKind>
 fn if_built(routine: Routine) -> Result<Routine, NetKind>
     ensures { result ≡ if_built routine }
 {
-    if is_built_routine(routine) {
+    if is_built_routine(&routine) {
         Ok(routine)
     } else {
         Err(NetKind::NotBuilt)
     }
 }
 
-fn is_built_routine(routine: Routine) -> bool
-    ensures { result ≡ is_built_routine routine }
+fn is_built_routine(routine: &Routine) -> bool
+    ensures { result ≡ is_built_routine routine.now }
 {
     match routine {
-        Routine::ArithOf(op, _) => is_built(op),
+        Routine::ArithOf(op, _) => is_built(*op),
         Routine::ScaledOf(_, _) => true,
     }
 }

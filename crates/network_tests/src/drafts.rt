@@ -9,27 +9,15 @@ use net_model::{
 use std::alloc::Global;
 use std::test::Fail;
 
-const SAME: Variant = Variant {
-    x: Ty::S16,
-    y: Ty::S16,
-    o: Ty::S16,
-};
-
-const UNLIKE: Variant = Variant {
-    x: Ty::S16,
-    y: Ty::U16,
-    o: Ty::S16,
-};
-
 // What the cases change of a network of two inputs, the conversion of the second to the first one's binary point, and
 // the sum of both.
 #[derive(Clone, Copy)]
 struct Sum {
     // The least value of the first input.
     lo: i64,
-    // The name of the sum, its types and its second argument.
+    // The name of the sum, the type of its second input and its second argument.
     name: [u8; 1],
-    v: Variant,
+    second: Ty,
     y: WireNo,
     // How often it is an output.
     out_count: usize,
@@ -38,7 +26,7 @@ struct Sum {
 const SUM: Sum = Sum {
     lo: 0,
     name: [b's'],
-    v: SAME,
+    second: Ty::S16,
     y: WireNo(2),
     out_count: 1,
 };
@@ -64,7 +52,10 @@ fn changed(change: Change) -> Sum {
             y: WireNo(3),
             ..SUM
         },
-        Change::OtherType => Sum { v: UNLIKE, ..SUM },
+        Change::OtherType => Sum {
+            second: Ty::U16,
+            ..SUM
+        },
         Change::EmptyRange => Sum { lo: 1001, ..SUM },
         Change::OutputTwice => Sum {
             out_count: 2,
@@ -75,6 +66,11 @@ fn changed(change: Change) -> Sum {
             ..SUM
         },
     }
+}
+
+// The types of a routine that gives an s16 and whose first input is one.
+fn variant_with(second: Ty) -> Result<Variant, Fail> {
+    Ok(Variant::new(Ty::S16, second, Ty::S16).ok_or(NetKind::TypeDiffers)?)
 }
 
 fn add_wire(
@@ -99,14 +95,14 @@ fn draft_of(alloc: Global, sum: Sum) -> Result<Draft, Fail> {
     add_wire(&mut wires, alloc, b"b", Kind::Num(Ty::S16, 4), b)?;
     let c = Item::Block(Block::Scaled {
         op: ScaledOp::Convert,
-        v: SAME,
+        v: variant_with(Ty::S16)?,
         x: WireNo(1),
         y: WireNo(1),
     });
     add_wire(&mut wires, alloc, b"c", Kind::Num(Ty::S16, 0), c)?;
     let s = Item::Block(Block::Arith {
         op: ArithOp::Add,
-        v: sum.v,
+        v: variant_with(sum.second)?,
         x: WireNo(0),
         y: sum.y,
         z: WireNo(0),

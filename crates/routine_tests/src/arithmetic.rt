@@ -1,17 +1,18 @@
 // `mfx_arith`: worked values of every operation, through the call by operation and types.
 
 use fx_core::Ty;
+use fx_routines::Types;
 use mfx_arith::{ArithOp, Variant, call, takes};
 
 // What an operation gives at the types of its inputs and its output, with its arguments and its shift, and what is
 // wanted.
 macro_rules! row {
     ($op:ident $x:ident $y:ident $o:ident ($a:expr, $b:expr, $c:expr, $sh:expr) = $wanted:expr) => {{
-        let v = Variant {
+        let v = Variant::of(Types {
             x: Ty::$x,
             y: Ty::$y,
             o: Ty::$o,
-        };
+        });
         (call(ArithOp::$op, v, $a, $b, $c, $sh), $wanted)
     }};
 }
@@ -66,13 +67,19 @@ fn limits(rt: HostRuntime) {
 
 #[test]
 fn variants(rt: HostRuntime) {
-    let pair = Variant {
+    assert!(rt; Variant::new(Ty::U8, Ty::S16, Ty::U8).is_none());
+    assert!(rt; Variant::new(Ty::S32, Ty::S16, Ty::S32).is_none());
+    let types = Types {
         x: Ty::U8,
         y: Ty::S8,
         o: Ty::S32,
     };
-    let same = Variant { y: Ty::U8, ..pair };
-    assert!(rt; Variant::new(Ty::U8, Ty::S16, Ty::U8).is_none());
+    assert_eq!(rt;
+        Variant::new(types.x, types.y, types.o).map(Variant::types),
+        Some(types)
+    );
+    let pair = Variant::of(types);
+    let same = Variant::of(Types { y: Ty::U8, ..types });
     assert!(rt;
         takes(ArithOp::Add, pair) && !takes(ArithOp::Abs, pair) && !takes(ArithOp::Min, same)
     );

@@ -1,17 +1,17 @@
 // `mfx_scaled`: worked values of every form, at points above and below one another.
 
 use fx_core::Ty;
-use mfx_arith::Variant;
+use fx_routines::{Types, Variant};
 use mfx_scaled::{Points, ScaledOp, call};
 
 // What a form gives at the types of its inputs and its output, with its arguments and its points, and what is wanted.
 macro_rules! row {
     ($op:ident $x:ident $y:ident $o:ident ($x_raw:expr, $y_raw:expr) at $a:literal $b:literal $c:literal = $wanted:expr) => {{
-        let v = Variant {
+        let v = Variant::of(Types {
             x: Ty::$x,
             y: Ty::$y,
             o: Ty::$o,
-        };
+        });
         let points = Points {
             a: $a,
             b: $b,

@@ -1,17 +1,17 @@
 // `fx_routines`: names of all four libraries, and words that are no names. The end-to-end suite has more of both.
 
 use fx_core::Ty;
-use fx_routines::{ArithOp, Routine, ScaledOp, Variant, push_name, routine_named, takes};
+use fx_routines::{ArithOp, Routine, ScaledOp, Types, push_name, routine_named, takes};
 use std::alloc::{AllocError, Global};
 use std::test::Fail;
 
 // Words, and what each names.
-const WORDS: [(&[u8], Option<(Routine, Variant)>); 8] = [
+const WORDS: [(&[u8], Option<(Routine, Types)>); 8] = [
     (
         b"Mfx_MulDiv_s32u32u32_s8",
         Some((
             Routine::Arith(ArithOp::MulDiv),
-            Variant {
+            Types {
                 x: Ty::S32,
                 y: Ty::U32,
                 o: Ty::S8,
@@ -22,7 +22,7 @@ const WORDS: [(&[u8], Option<(Routine, Variant)>); 8] = [
         b"Mfx_ConvertP2_s16_s32",
         Some((
             Routine::Scaled(ScaledOp::Convert),
-            Variant {
+            Types {
                 x: Ty::S16,
                 y: Ty::S16,
                 o: Ty::S32,
@@ -33,7 +33,7 @@ const WORDS: [(&[u8], Option<(Routine, Variant)>); 8] = [
         b"Bfx_CopyBit_u32u8u32u8_u32",
         Some((
             Routine::NotBuilt,
-            Variant {
+            Types {
                 x: Ty::U32,
                 y: Ty::U32,
                 o: Ty::U32,
@@ -44,7 +44,7 @@ const WORDS: [(&[u8], Option<(Routine, Variant)>); 8] = [
         b"Ifx_IntIpoMap_u8s16_s8",
         Some((
             Routine::NotBuilt,
-            Variant {
+            Types {
                 x: Ty::U8,
                 y: Ty::S16,
                 o: Ty::S8,
@@ -55,7 +55,7 @@ const WORDS: [(&[u8], Option<(Routine, Variant)>); 8] = [
         b"Efx_Debounce_bool_bool",
         Some((
             Routine::NotBuilt,
-            Variant {
+            Types {
                 x: Ty::U8,
                 y: Ty::U8,
                 o: Ty::U8,
@@ -68,16 +68,16 @@ const WORDS: [(&[u8], Option<(Routine, Variant)>); 8] = [
 ];
 
 // What a word names. It promises nothing, so that no test carries the clauses of the call.
-fn named(word: &[u8]) -> Option<(Routine, Variant)> {
+fn named(word: &[u8]) -> Option<(Routine, Types)> {
     routine_named(word)
 }
 
 // The name of a routine of arithmetic, or nothing where it has no such types.
-fn name_of(alloc: Global, op: ArithOp, v: Variant) -> Result<Vec<u8>, AllocError> {
+fn name_of(alloc: Global, op: ArithOp, types: Types) -> Result<Vec<u8>, AllocError> {
     let routine = Routine::Arith(op);
     let mut name = Vec::new(alloc);
-    if takes(routine, v) {
-        push_name(&mut name, routine, v)?;
+    if takes(routine, types) {
+        push_name(&mut name, routine, types)?;
     }
     Ok(name)
 }
@@ -90,7 +90,7 @@ fn names_of_all_libraries(rt: HostRuntime) -> Result<(), Fail> {
     let name = name_of(
         rt.alloc(),
         ArithOp::MulDiv,
-        Variant {
+        Types {
             x: Ty::S16,
             y: Ty::U16,
             o: Ty::S8,
