@@ -1,5 +1,5 @@
 -- The line of a wire is read as the wire.
-use Rattle.std.proofs.Common.{◌≡◌, ℕ, ◌≤◌, ◌<◌, ◌^◌, true, false, eqb, int_le, List, [], ◌∷◌, ◌++◌, map, length, take, ℤ, unsigned_abs, Ok, arith, ne_eqb}
+use Rattle.std.proofs.Common.{◌≡◌, ℕ, ◌≤◌, ◌<◌, ◌^◌, true, int_le, List, [], ◌∷◌, ◌++◌, map, length, take, ℤ, unsigned_abs, Ok, arith}
 use Rattle.std.specs.Fmt.{signed_decimal}
 use Rattle.std.proofs.lemmas.Bool.{and_parts}
 use Rattle.std.proofs.lemmas.Int.{ints}
@@ -22,7 +22,7 @@ use Rattle.net_text.specs.Forms.{keyword_of, line_of, defining_line, wire_line}
 use Rattle.net_text.specs.Text.{after_definition, after_line}
 use Rattle.net_text.specs.Printing.{kind_word, block_name, argument_words, shift_words, wire_words}
 use Rattle.net_text.proofs.PrintedKinds.{kind_of-kind_word, is_position-kind_word}
-use Rattle.net_text.proofs.PrintedForms.{IsNew, block_line, in_line-reads, const_line-reads, wire_line-reads}
+use Rattle.net_text.proofs.PrintedForms.{IsNew, in_line-reads, const_line-reads, wire_line-reads}
 use Rattle.net_text.proofs.PrintedBlocks.{agrees_so_far, arith_line, scaled_line, all_three}
 
 -- ---- numbers of a kind are short
@@ -103,6 +103,4 @@ after_wire lines wires outs i name kind (Const value) distinct within new ok =
     rw (const_line-reads (take i wires) name (kind_word kind) (signed_decimal value) kind value new (kind_of-kind_word kind ok.kind_good)
     (number_of-signed_decimal value (kind_holds-short kind value ok.in_range)) ok.in_range)
 after_wire lines wires outs i name kind (OfBlock b) distinct within new ok =
-    let rest = argument_words wires b ++ shift_words b in
-    let some : eqb (length (block_line name (kind_word kind) (block_name b) rest)) 0 ≡ false = ne_eqb _ 0 (λ none. omega arith) in
-    rw (some, block_is_read lines wires i name kind b distinct within new ok.kind_good ok.earlier ok.agree ok.in_range ok.named)
+    rw (block_is_read lines wires i name kind b distinct within new ok.kind_good ok.earlier ok.agree ok.in_range ok.named)
