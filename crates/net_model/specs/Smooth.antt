@@ -26,4 +26,6 @@ IsSmooth wires = (i : ℕ) → i < length wires → IsTrue (is_smooth (wire_at w
 -- wire i isn't smooth, and it is the first such wire
 abbrev pub IsFirstRough : List Wire → ℕ → Type 0
 IsFirstRough wires i =
-    (i < length wires) × (is_smooth (wire_at wires i).item ≡ false) × ((k : ℕ) → k < i → IsTrue (is_smooth (wire_at wires k).item))
+    (i < length wires)
+    × (is_smooth (wire_at wires i).item ≡ false)
+    × ((k : ℕ) → k < i → IsTrue (is_smooth (wire_at wires k).item))
