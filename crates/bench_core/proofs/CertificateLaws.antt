@@ -3,7 +3,7 @@ use Rattle.std.proofs.Common.{◌≡◌, ℕ, suc, ◌+◌, ◌<◌, ◌≤◌, 
 use Rattle.std.specs.Prelude.{bytes_eq, codes, ok_or, position}
 use Rattle.std.specs.List.{position_or_len}
 use Rattle.std.proofs.lemmas.Bool.{true≢false, false≢true, and_from, and_parts, not_from_true, ltb-false, le-ltb}
-use Rattle.text_words.specs.Lines.{lines_of, nth, words_of}
+use Rattle.text_words.specs.Lines.{nth}
 use Rattle.text_words.specs.Numbers.{number_of}
 use Rattle.net_model.specs.declared.wires.Wire.{Wire}
 use Rattle.net_model.specs.Wires.{NetData, parts_of}
@@ -13,8 +13,9 @@ use Rattle.text_words.specs.Steps.{◌>>=◌, demand}
 use Rattle.cert_rules.specs.declared.bounds.Bounds.{Bounds}
 use Rattle.cert_rules.specs.Proper.{is_entry_number, is_proper_entry, first_improper}
 use Rattle.bench_core.specs.declared.cert_kind.CertKind.{CertKind}
-use Rattle.bench_core.specs.declared.cert_kind.CertKind.TheVariants.{BadLine, WrongPart, BadNumber, EmptyRange, Missing}
-use Rattle.bench_core.specs.CertificateText.{number_within, most, names_next, part_line, located, after_line, ended, walked, is_head, from_head, certificate_of}
+use Rattle.bench_core.specs.declared.cert_kind.CertKind.TheVariants.{BadLine, WrongPart, BadNumber, EmptyRange}
+use Rattle.bench_core.specs.CertificateText.{number_within, most, names_next, part_line, certificate_reader, certificate_of}
+use Rattle.text_words.proofs.ReaderSteps.{kept_by_text}
 
 -- two steps that give something: the first does, and the second goes on with it
 record Bound {A B E : Type 0} (r : Result A E) (next : A → Result B E) (y : B) : Type 0 where
@@ -34,36 +35,7 @@ demanded false kind next y h = cc
 ok_same : {A E : Type 0} (x y : A) → ◌≡◌ {A = Result A E} (Ok x) (Ok y) → x ≡ y
 ok_same x y h = cc
 
--- a choice that gives something gives it on the side that is taken
-chosen : {A : Type 0} (b : Bool) (x y z : A) (P : Type 0) → (x ≡ z → P) → (y ≡ z → P) → cond b x y ≡ z → P
-chosen true x y z P left right h = left h
-chosen false x y z P left right h = right h
-
-ended_complete : (b : Bool) (above : ℕ) (found entries : List Bounds) → located above (demand b Missing >>= (λ _. Ok found)) ≡ Ok entries → (b ≡ true) × (found ≡ entries)
-ended_complete true above found entries h = (refl, cc)
-ended_complete false above found entries h = cc
-
-walked_complete : (wires : List Wire) (above : ℕ) (found : List Bounds) (lines : List (List ℕ)) (entries : List Bounds) → walked wires above found lines ≡ Ok entries → length entries ≡ length (parts_of wires)
-unfolding walked ended
-walked_complete wires above found [] entries h =
-    let e = ended_complete (length found == length (parts_of wires)) above found entries h in
-    ap length (sym e.1) ∙ eqb-true (length found) (length (parts_of wires)) e.0
-walked_complete wires above found (line ∷ rest) entries h =
-    let e = bound (located (above + 1) (after_line wires found (words_of line))) (λ next. walked wires (above + 1) next rest) entries h in
-    walked_complete wires (above + 1) e.value rest entries e.later
-
-from_head_complete : (wires : List Wire) (above : ℕ) (lines : List (List ℕ)) (entries : List Bounds) → from_head wires above lines ≡ Ok entries → length entries ≡ length (parts_of wires)
-unfolding from_head
-from_head_complete wires above [] entries h = cc
-from_head_complete wires above (line ∷ rest) entries h =
-    chosen (length (words_of line) == 0) _ _ _ _ (from_head_complete wires (above + 1) rest entries) (chosen (is_head (words_of line)) _ _ _ _ (walked_complete wires (above + 1) [] rest entries) (λ fault. cc)) h
-
--- the certificate of a text has one entry for each part
-pub certificate_of-complete : (wires : List Wire) (text : List ℕ) (entries : List Bounds) → certificate_of wires text ≡ Ok entries → length entries ≡ length (parts_of wires)
-unfolding certificate_of
-certificate_of-complete wires text entries h = from_head_complete wires 0 (lines_of text) entries h
-
--- so they are few
+-- entries for each part are few
 pub few_entries : (net : NetData) (entries : List Bounds) → IsValid net → length entries ≡ length (parts_of net.wires) → length entries < 2 ^ 32
 few_entries net entries valid e =
     let few : length net.wires ≤ 512 = length-valid net valid in
@@ -150,40 +122,21 @@ none_behind test entries b one h =
 some_is_not_none : (k : ℕ) → ◌≡◌ {A = Option ℕ} (Some k) None → ⊥
 some_is_not_none k h = cc
 
-located_ok : {A : Type 0} (line : ℕ) (r : Result A CertKind) (x : A) → located line r ≡ Ok x → r ≡ Ok x
-located_ok line (Ok y) x h = let same : y ≡ x = cc in ap Ok same
-located_ok line (Err kind) x h = cc
-
 entry_behind : (wires : List Wire) (found : List Bounds) (words : List (List ℕ)) (next : List Bounds) → first_improper found ≡ None → (part_line wires (length found) words >>= (λ entry. Ok (found ++ entry ∷ []))) ≡ Ok next → first_improper next ≡ None
 entry_behind wires found words next none h =
     let e = bound (part_line wires (length found) words) (λ entry. Ok (found ++ entry ∷ [])) next h in
     let proper = part_line-proper wires (length found) words e.value e.gives in
     subst (λ entries. first_improper entries ≡ None) (ok_same _ next e.later) (none_behind (λ b. not (is_proper_entry b)) found e.value (not_from_true _ proper) none)
 
-after_line-proper : (wires : List Wire) (found : List Bounds) (words : List (List ℕ)) (next : List Bounds) → first_improper found ≡ None → after_line wires found words ≡ Ok next → first_improper next ≡ None
-unfolding after_line
-after_line-proper wires found words next none h =
-    chosen (length words == 0) _ _ _ _ (λ same. subst (λ entries. first_improper entries ≡ None) (ok_same found next same) none) (entry_behind wires found words next none) h
-
-walked_proper : (wires : List Wire) (above : ℕ) (found : List Bounds) (lines : List (List ℕ)) (entries : List Bounds) → first_improper found ≡ None → walked wires above found lines ≡ Ok entries → first_improper entries ≡ None
-unfolding walked ended
-walked_proper wires above found [] entries none h =
-    let e = ended_complete (length found == length (parts_of wires)) above found entries h in
-    subst (λ all. first_improper all ≡ None) e.1 none
-walked_proper wires above found (line ∷ rest) entries none h =
-    let e = bound (located (above + 1) (after_line wires found (words_of line))) (λ next. walked wires (above + 1) next rest) entries h in
-    walked_proper wires (above + 1) e.value rest entries (after_line-proper wires found (words_of line) e.value none (located_ok (above + 1) _ e.value e.gives)) e.later
-
-from_head_proper : (wires : List Wire) (above : ℕ) (lines : List (List ℕ)) (entries : List Bounds) → from_head wires above lines ≡ Ok entries → first_improper entries ≡ None
-unfolding from_head
-from_head_proper wires above [] entries h = cc
-from_head_proper wires above (line ∷ rest) entries h =
-    chosen (length (words_of line) == 0) _ _ _ _ (from_head_proper wires (above + 1) rest entries) (chosen (is_head (words_of line)) _ _ _ _ (walked_proper wires (above + 1) [] rest entries refl) (λ fault. cc)) h
-
-certificate_of-proper : (wires : List Wire) (text : List ℕ) (entries : List Bounds) → certificate_of wires text ≡ Ok entries → first_improper entries ≡ None
+-- the certificate of a text has none that isn't proper, and one entry for each part
+said_good : (wires : List Wire) (text : List ℕ) (entries : List Bounds) → certificate_of wires text ≡ Ok entries → (first_improper entries ≡ None) × ((length entries == length (parts_of wires)) ≡ true)
 unfolding certificate_of
-certificate_of-proper wires text entries h = from_head_proper wires 0 (lines_of text) entries h
+said_good wires text entries h =
+    kept_by_text (certificate_reader wires) (λ found. first_improper found ≡ None) text entries (λ found words next none made. entry_behind wires found words next none made) refl h
+
+pub certificate_of-complete : (wires : List Wire) (text : List ℕ) (entries : List Bounds) → certificate_of wires text ≡ Ok entries → length entries ≡ length (parts_of wires)
+certificate_of-complete wires text entries h = eqb-true (length entries) (length (parts_of wires)) (said_good wires text entries h).1
 
 -- each entry of a text's certificate is proper, so none is the first that isn't
 pub never_improper : (wires : List Wire) (text : List ℕ) (entries : List Bounds) (k : ℕ) → certificate_of wires text ≡ Ok entries → first_improper entries ≡ Some k → ⊥
-never_improper wires text entries k h improper = some_is_not_none k (sym improper ∙ certificate_of-proper wires text entries h)
+never_improper wires text entries k h improper = some_is_not_none k (sym improper ∙ (said_good wires text entries h).0)

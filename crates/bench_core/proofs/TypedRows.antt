@@ -20,7 +20,7 @@ use Rattle.rec_csv.specs.Fields.{fields_of_line, field_in, trimmed}
 use Rattle.rec_csv.specs.Headers.{HeaderData, header_of, column_of, columns_of, only_place, places_from}
 use Rattle.text_words.specs.Steps.{◌>>=◌, demand}
 use Rattle.bench_core.specs.RunSteps.{IsHeaderOf}
-use Rattle.rec_csv.specs.Rows.{row_of, values_of, value_of}
+use Rattle.rec_csv.specs.Rows.{row_of, input_values, input_value}
 
 -- what is read where there is none
 abbrev no_number : WireNo
@@ -84,20 +84,20 @@ tested_kind : (column : Column) (value z : ℤ) (passed : Bool) → kind_holds c
 tested_kind column value z true is h = let e : z ≡ value = cc in subst (λ v. kind_holds column.kind v ≡ true) e is
 tested_kind column value z false is h = absurd (cc)
 
-value_kind : (column : Column) (field : List ℕ) (value : ℤ) → value_of column field ≡ Ok value → kind_holds column.kind value ≡ true
-unfolding value_of
+value_kind : (column : Column) (field : List ℕ) (value : ℤ) → input_value column field ≡ Ok value → kind_holds column.kind value ≡ true
+unfolding input_value
 value_kind column field value h =
     let p = then_ok (ok_or (number_of (trimmed field)) (BadNumber column.wire)) (λ z. demand (kind_holds column.kind z) (OutOfType column.wire) >>= (λ _. Ok z)) value h in
     tested_kind column value p.0 (kind_holds column.kind p.0) refl p.2
 
-value_kinds : (columns : List Column) (fields : List (List ℕ)) (values : List ℤ) (k : ℕ) → values_of columns fields ≡ Ok values → k < length columns → kind_holds (get_or columns k no_column).kind (get_or values k (pos 0)) ≡ true
-unfolding values_of
+value_kinds : (columns : List Column) (fields : List (List ℕ)) (values : List ℤ) (k : ℕ) → input_values columns fields ≡ Ok values → k < length columns → kind_holds (get_or columns k no_column).kind (get_or values k (pos 0)) ≡ true
+unfolding input_values
 value_kinds [] fields values k h lt = absurd (omega arith)
 value_kinds (column ∷ columns) fields values zero h lt =
-    let p = both_ok (value_of column (field_in fields column.place)) (values_of columns fields) (λ v vs. v ∷ vs) values h in
+    let p = both_ok (input_value column (field_in fields column.place)) (input_values columns fields) (λ v vs. v ∷ vs) values h in
     subst (λ vs. kind_holds column.kind (get_or vs 0 (pos 0)) ≡ true) (sym p.4) (value_kind column (field_in fields column.place) p.0 p.2)
 value_kinds (column ∷ columns) fields values (suc k) h lt =
-    let p = both_ok (value_of column (field_in fields column.place)) (values_of columns fields) (λ v vs. v ∷ vs) values h in
+    let p = both_ok (input_value column (field_in fields column.place)) (input_values columns fields) (λ v vs. v ∷ vs) values h in
     subst (λ vs. kind_holds (get_or columns k no_column).kind (get_or vs (suc k) (pos 0)) ≡ true) (sym p.4) (value_kinds columns fields p.1 k p.3 (omega arith))
 
 -- ---- the place of an input
@@ -148,11 +148,11 @@ header_columns wires head header h =
     let e : record { width = length p.0; columns = q.0 } ≡ header = cc in
     (p.0, q.1 ∙ ap (λ (h : HeaderData). Ok h.columns) e)
 
-row_values : (header : HeaderData) (line : List ℕ) (values : List ℤ) → row_of header line ≡ Ok values → (fields : List (List ℕ)) × (values_of header.columns fields ≡ Ok values)
+row_values : (header : HeaderData) (line : List ℕ) (values : List ℤ) → row_of header line ≡ Ok values → (fields : List (List ℕ)) × (input_values header.columns fields ≡ Ok values)
 unfolding row_of
 row_values header line values h =
-    let p = then_ok (ok_or (fields_of_line line) BadLine) (λ fields. demand (nat_le header.width (length fields)) BadWidth >>= (λ _. values_of header.columns fields)) values h in
-    let q = then_ok (demand (nat_le header.width (length p.0)) BadWidth) (λ _. values_of header.columns p.0) values p.2 in
+    let p = then_ok (ok_or (fields_of_line line) BadLine) (λ fields. demand (nat_le header.width (length fields)) BadWidth >>= (λ _. input_values header.columns fields)) values h in
+    let q = then_ok (demand (nat_le header.width (length p.0)) BadWidth) (λ _. input_values header.columns p.0) values p.2 in
     (p.0, q.2)
 
 row_is_typed : (wires : List Wire) (head line : List ℕ) (header : HeaderData) (values : List ℤ) → header_of wires head ≡ Ok header → row_of header line ≡ Ok values → AreTyped wires values

@@ -1,7 +1,8 @@
 -- A certificate's text: the bounds that it says, one entry for each part of the network in their order, or its first
--- fault. Lines, words and numbers are those of the crate of words; lines without words are skipped, and counted.
-use Rattle.std.specs.Prelude.{ℕ, ◌+◌, ◌^◌, Bool, ◌&&◌, ◌==◌, nat_lt, int_le, List, [], ◌∷◌, ◌++◌, length, ℤ, pos, neg_ℤ, codes, bytes_eq, ok_or, Result, Ok, Err, if◌then◌else◌}
-use Rattle.text_words.specs.Lines.{lines_of, nth, words_of}
+-- fault. How its lines are read is the crate of words'; so are words and numbers.
+use Rattle.std.specs.Prelude.{ℕ, ◌^◌, Bool, ◌&&◌, ◌==◌, nat_lt, int_le, List, [], ◌∷◌, ◌++◌, length, ℤ, pos, neg_ℤ, codes, bytes_eq, ok_or, Result, Ok}
+use Rattle.text_words.specs.Lines.{nth}
+use Rattle.text_words.specs.Readers.{Reader, said_by}
 use Rattle.text_words.specs.Numbers.{number_of}
 use Rattle.net_model.specs.declared.wires.Wire.{Wire}
 use Rattle.net_model.specs.Wires.{parts_of}
@@ -38,45 +39,25 @@ part_line wires k words = do
   _ ← demand (int_le lo hi) EmptyRange
   Ok (record { lo = lo; hi = hi; err = err })
 
--- a fault at a line, from 1
-abbrev pub located : {A : Type 0} → ℕ → Result A CertKind → Result A CertFault
-located line (Ok value) = Ok value
-located line (Err kind) = Err (record { line = line; kind = kind })
-
--- the entries so far, behind a line of these words
-unfoldable pub after_line : List Wire → List Bounds → List (List ℕ) → Result (List Bounds) CertKind
-after_line wires entries words = if length words == 0 then Ok entries else (do
+-- the entries so far, with that of one more line
+abbrev pub after_part : List Wire → List Bounds → List (List ℕ) → Result (List Bounds) CertKind
+after_part wires entries words = do
   entry ← part_line wires (length entries) words
-  Ok (entries ++ entry ∷ []))
+  Ok (entries ++ entry ∷ [])
 
--- behind all lines each part is named
-unfoldable pub ended : List Wire → List Bounds → Result (List Bounds) CertKind
-ended wires entries = do
-  _ ← demand (length entries == length (parts_of wires)) Missing
-  Ok entries
-
--- the lines that are left, below `above` lines that say the entries so far
-unfoldable pub walked : List Wire → ℕ → List Bounds → List (List ℕ) → Result (List Bounds) CertFault
-walked wires above entries [] = located above (ended wires entries)
-walked wires above entries (line ∷ rest) = do
-  next ← located (above + 1) (after_line wires entries (words_of line))
-  walked wires (above + 1) next rest
-
--- `cert 1`
-abbrev pub is_head : List (List ℕ) → Bool
-is_head words = bytes_eq (nth words 0) (codes "cert") && bytes_eq (nth words 1) (codes "1") && (length words == 2)
-
--- the fault of a line, from 1, that stands in the place of the head
-abbrev pub no_head : ℕ → Result (List Bounds) CertFault
-no_head line = Err (record { line = line; kind = NoHead })
-
--- the lines that are left, below `above` lines without words
-unfoldable pub from_head : List Wire → ℕ → List (List ℕ) → Result (List Bounds) CertFault
-from_head wires above [] = no_head 1
-from_head wires above (line ∷ rest) =
-    if length (words_of line) == 0 then from_head wires (above + 1) rest
-    else (if is_head (words_of line) then walked wires (above + 1) [] rest else no_head (above + 1))
+-- how a certificate is read for these wires: below `cert 1` each line is the entry of the next part, and at the end
+-- each part has one
+abbrev pub certificate_reader : List Wire → Reader (List Bounds) CertKind CertFault
+certificate_reader wires = record {
+  keyword = codes "cert";
+  no_head = NoHead;
+  start = [];
+  step = after_part wires;
+  is_complete = λ entries. length entries == length (parts_of wires);
+  incomplete = Missing;
+  fault = λ line kind. record { line = line; kind = kind };
+}
 
 -- the certificate of a text for these wires, or its first fault
 unfoldable pub certificate_of : List Wire → List ℕ → Result (List Bounds) CertFault
-certificate_of wires text = from_head wires 0 (lines_of text)
+certificate_of wires text = said_by (certificate_reader wires) text

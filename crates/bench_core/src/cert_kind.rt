@@ -1,6 +1,3 @@
-ghost use Rattle.std.specs.Prelude.{◌≡◌};
-ghost use Rattle.bench_core.specs.declared.cert_kind.CertError.TheVariants.{Fault};
-
 /// A fault of a certificate's text, in the order in which one line is tested.
 #[derive(Clone, Copy)]
 pub enum CertKind {
@@ -32,12 +29,4 @@ pub enum CertError {
     /// The first fault of the text.
     Fault(CertFault),
     OutOfMemory,
-}
-
-impl From<CertFault> for CertError {
-    ghost from_gives = { λ fault error. error ≡ Fault fault };
-
-    fn from(fault: CertFault) -> CertError {
-        CertError::Fault(fault)
-    }
 }

@@ -1,18 +1,18 @@
 // Reads a certificate's text.
-ghost use Rattle.std.specs.Prelude.{◌≡◌, ◌+◌, ◌<◌, ◌≤◌, ◌^◌, List, [], length, Ok, Err, IfOk, MatchResult, vec_items};
+ghost use Rattle.std.specs.Prelude.{◌≡◌, ◌+◌, ◌<◌, ◌^◌, [], length, IfOk, vec_items};
 ghost use Rattle.std.specs.Result.{result_map_both};
-ghost use Rattle.text_words.specs.Lines.{lines_from, words_of};
-ghost use Rattle.net_model.specs.declared.wires.Wire.{Wire};
+ghost use Rattle.text_words.specs.Lines.{lines_from};
+ghost use Rattle.text_words.specs.Readers.{read_below};
 ghost use Rattle.net_model.specs.Wires.{parts_of};
-ghost use Rattle.bench_core.specs.CertificateText.{certificate_of, is_head, walked};
-ghost use Rattle.bench_core.specs.CertificateReading.{ReadsCertificate};
+ghost use Rattle.bench_core.specs.CertificateText.{certificate_reader};
+ghost use Rattle.bench_core.specs.CertificateReading.{GivesEntries, ReadsCertificate};
 
 use crate::cert_kind::{CertError, CertFault, CertKind};
 use crate::cert_line::part_line;
 use cert_rules::{Bounds, Certificate};
 use net_model::Network;
 use std::alloc::Global;
-use text_words::{count_words, is_literal, next_line, without_mark, word_at};
+use text_words::{behind_head, count_words, next_line};
 
 /// The certificate that the text says for the network: one entry for each part, in the order of the parts. Each line
 /// is looked at until the first that has a fault. Where memory runs out, nothing is said of the text.
@@ -29,6 +29,7 @@ pub fn read_certificate(alloc: Global, net: &Network, text: &[u8]) -> Result<Cer
 }
 
 // The entries that the text says. A line is refused where its entry isn't proper, so they make a certificate.
+#[tactic(auto, unfolding(crate::specs::CertificateText::certificate_of, text_words::specs::Readers::said_by))]
 fn read_entries(alloc: Global, net: &Network, text: &[u8]) -> Result<Vec<Bounds>, CertError>
     requires { length text.now < 2 ^ 32 }
     ensures reads { ReadsCertificate net.now.wires text.now
@@ -36,10 +37,33 @@ fn read_entries(alloc: Global, net: &Network, text: &[u8]) -> Result<Vec<Bounds>
     ensures complete { IfOk result (λ v. length v.items ≡ length (parts_of net.now.wires)) }
     ensures few { IfOk result (λ v. length v.items < 2 ^ 32) }
 {
-    let (mut above, mut rest) = behind_head(text)?;
+    match behind_head(b"cert", text) {
+        Ok((head, lines)) => entries_below(alloc, net, head, lines),
+        Err(line) => Err(CertError::Fault(CertFault {
+            line,
+            kind: CertKind::NoHead,
+        })),
+    }
+}
+
+// The entries of the lines below the head.
+fn entries_below(
+    alloc: Global,
+    net: &Network,
+    head: u32,
+    lines: &[u8],
+) -> Result<Vec<Bounds>, CertError>
+    requires { head + length lines.now < 2 ^ 32 }
+    ensures reads { GivesEntries (read_below (certificate_reader net.now.wires) head [] (lines_from lines.now))
+        (result_map_both vec_items (λ error. error) result) }
+    ensures complete { IfOk result (λ v. length v.items ≡ length (parts_of net.now.wires)) }
+    ensures few { IfOk result (λ v. length v.items < 2 ^ 32) }
+{
     let Ok(mut entries) = Vec::with_capacity(alloc, net.parts().len()) else {
         return Err(CertError::OutOfMemory);
     };
+    let mut above = head;
+    let mut rest = lines;
     while let Some((line, after)) = next_line(rest) {
         above += 1;
         if count_words(line) > 0 {
@@ -61,49 +85,5 @@ fn read_entries(alloc: Global, net: &Network, text: &[u8]) -> Result<Vec<Bounds>
             line: above,
             kind: CertKind::Missing,
         }))
-    }
-}
-
-// How many lines there are up to the head, and what is left behind it.
-#[tactic(auto, using(crate::proofs::CertificateSteps::head_steps))]
-fn behind_head(text: &[u8]) -> Result<(u32, &[u8]), CertFault>
-    requires { length text.now < 2 ^ 32 }
-    ensures gives { MatchResult result
-        (λ cut. (wires : List Wire) →
-        certificate_of wires text.now ≡ walked wires cut.0 [] (lines_from cut.1.now))
-        (λ fault. (wires : List Wire) → certificate_of wires text.now ≡ Err fault) }
-    ensures fewer { IfOk result (λ cut. cut.0 + length cut.1.now ≤ length text.now) }
-{
-    let mut above = 0;
-    let mut rest = without_mark(text);
-    while let Some((line, after)) = next_line(rest) {
-        above += 1;
-        if count_words(line) > 0 {
-            return if is_head(line) {
-                Ok((above, after))
-            } else {
-                Err(no_head(above))
-            };
-        }
-        rest = after;
-    }
-    Err(no_head(1))
-}
-
-// `cert 1`
-fn is_head(line: &[u8]) -> bool
-    ensures { result ≡ is_head (words_of line.now) }
-{
-    is_literal(word_at(line, 0), b"cert")
-        && is_literal(word_at(line, 1), b"1")
-        && count_words(line) == 2
-}
-
-fn no_head(line: u32) -> CertFault
-    ensures { result ≡ record { line = line; kind = CertKind.NoHead } }
-{
-    CertFault {
-        line,
-        kind: CertKind::NoHead,
     }
 }

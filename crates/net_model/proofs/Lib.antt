@@ -4,3 +4,4 @@ mod NameLemmas
 pub mod BuiltFacts
 pub mod ValidityFacts
 pub mod TestedDrafts
+pub mod HeldKinds

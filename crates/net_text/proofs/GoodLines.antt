@@ -6,8 +6,10 @@ use Rattle.std.specs.List.{list_any, position_or_len}
 use Rattle.std.proofs.lemmas.Bool.Decides.{nat_tests}
 use Rattle.text_words.specs.Lines.{nth}
 use Rattle.text_words.specs.Names.{is_name}
+use Rattle.text_words.specs.Numbers.{digit_of}
 use Rattle.text_words.specs.Steps.{◌>>=◌, demand}
 use Rattle.fx_core.specs.declared.word_type.Ty.{Ty}
+use Rattle.fx_routines.specs.declared.operation.ArithOp.{ArithOp}
 use Rattle.fx_routines.specs.declared.operation.ArithOp.TheVariants.{MulShRight, DivShLeft}
 use Rattle.fx_routines.specs.declared.operation.Variant.{Variant}
 use Rattle.fx_routines.specs.declared.table.Routine.{Routine as Named}
@@ -29,11 +31,11 @@ use Rattle.net_text.specs.declared.routine_word.Routine.TheVariants.{ArithOf, Sc
 use Rattle.net_text.specs.declared.routine_word.Arguments.{Arguments}
 use Rattle.net_text.specs.declared.line_forms.Content.{Content}
 use Rattle.net_model.specs.Wires.{place_of}
-use Rattle.net_model.specs.Built.{is_shift}
-use Rattle.net_model.specs.Validity.{is_good_kind, kind_holds, agrees, is_earlier, type_read, is_built_item, item_reads_earlier, item_agrees, item_in_range}
-use Rattle.net_text.specs.TypeWords.{ty_of, ty_len, one_digit, two_digits, digit_value, point_of_word, number_kind_of, kind_of}
+use Rattle.net_model.specs.Built.{has_shift, is_shift}
+use Rattle.net_model.specs.Validity.{is_among, is_good_kind, kind_holds, has_good_numbers, agrees, is_earlier, type_read, is_built_item, item_reads_earlier, item_agrees, item_in_range}
+use Rattle.net_text.specs.TypeWords.{ty_of, ty_len, one_digit, two_digits, point_of_word, number_kind_of, kind_of}
 use Rattle.net_text.specs.RoutineWords.{is_built_routine, built_at, routine_at, arity_of, is_shifting, block_of}
-use Rattle.net_text.specs.Forms.{keyword_of, is_wire, are_known, axis_passes, is_type, is_narrow, argument_at, arguments_of, places_at, shift_of, words_wanted, reached, fresh, has_room, number_at, range_of, value_of, kind_at, agreed, in_line, const_line, wire_line, unbuilt_line, line_of, is_known, is_output, out_line, defining_line}
+use Rattle.net_text.specs.Forms.{keyword_of, is_wire, are_known, axis_passes, is_type, is_narrow, argument_at, arguments_of, shift_at, shift_of, words_wanted, wire_above, fresh, has_room, number_at, input_of, const_of, kind_at, agreed, in_line, const_line, wire_line, unbuilt_line, line_of, is_known, is_output, out_line, defining_line}
 
 -- ---- tests
 
@@ -112,7 +114,7 @@ place_within wires name place h =
 -- a good binary point
 one_digit_good : (a point : ℕ) → one_digit a ≡ Some point → nat_le point 15 ≡ true
 one_digit_good a point h =
-    let found = place_below (is_ascii_digit a) (digit_value a) point h in
+    let found = place_below (is_ascii_digit a) (digit_of a) point h in
     let most : nat_le a 57 ≡ true = second_of_both (nat_le 48 a) (nat_le a 57) found.0 in
     let small : nat_le (a - 48) 15 ≡ true = grind (arith, nat_tests) in
     subst (λ p. nat_le p 15 ≡ true) found.1 small
@@ -120,7 +122,7 @@ one_digit_good a point h =
 -- of two digits
 two_digits_good : (a b point : ℕ) → two_digits a b ≡ Some point → nat_le point 15 ≡ true
 two_digits_good a b point h =
-    let value = 10 * digit_value a + digit_value b in
+    let value = 10 * digit_of a + digit_of b in
     let found = place_below (is_ascii_digit a && is_ascii_digit b && nat_le value 15) value point h in
     subst (λ p. nat_le p 15 ≡ true) found.1 (second_of_both (is_ascii_digit a && is_ascii_digit b) (nat_le value 15) found.0)
 
@@ -221,9 +223,9 @@ range_tests wires kind (Ok lo) (Ok hi) item h =
     range_in wires kind lo hi (kind_holds kind lo && kind_holds kind hi && int_le lo hi) item refl h
 
 -- the range of an input is good
-range_good : (wires : List Wire) (kind : Kind) (low high : List ℕ) (item : Item) → range_of kind low high ≡ Ok item → IsGoodItem wires kind item
-unfolding range_of
-range_good wires kind low high item h = range_tests wires kind (number_at low) (number_at high) item h
+input_good : (wires : List Wire) (kind : Kind) (low high : List ℕ) (item : Item) → input_of kind low high ≡ Ok item → IsGoodItem wires kind item
+unfolding input_of
+input_good wires kind low high item h = range_tests wires kind (number_at low) (number_at high) item h
 
 -- the value lies in its kind
 value_in : (wires : List Wire) (kind : Kind) (value : ℤ) (test : Bool) (item : Item) → kind_holds kind value ≡ test → (demand test OutOfRange >>= λ _. Ok (Const value)) ≡ Ok item → IsGoodItem wires kind item
@@ -239,9 +241,9 @@ value_tests wires kind (Err fault) item h = cc
 value_tests wires kind (Ok value) item h = value_in wires kind value (kind_holds kind value) item refl h
 
 -- the value of a constant is good
-value_good : (wires : List Wire) (kind : Kind) (word : List ℕ) (item : Item) → value_of kind word ≡ Ok item → IsGoodItem wires kind item
-unfolding value_of
-value_good wires kind word item h = value_tests wires kind (number_at word) item h
+const_of_good : (wires : List Wire) (kind : Kind) (word : List ℕ) (item : Item) → const_of kind word ≡ Ok item → IsGoodItem wires kind item
+unfolding const_of
+const_of_good wires kind word item h = value_tests wires kind (number_at word) item h
 
 -- an input's line and a constant's have one shape
 content_end : (wires : List Wire) (name : List ℕ) (room : Result (Unit {0}) NetKind) (kind : Kind) (item : Result Item NetKind) (content : Content) → IsFresh wires name → is_good_kind kind ≡ true → ((x : Item) → item ≡ Ok x → IsGoodItem wires kind x) → ((done : Unit {0}) → room ≡ Ok done → nat_lt (length wires) 512 ≡ true) → (item >>= λ x. room >>= λ _. Ok (record { kind = kind; item = x })) ≡ Ok content → IsGood wires name content
@@ -265,13 +267,13 @@ content_tests wires name (Ok _) (Ok new) room (Ok kind) item content f g i r h =
 in_good : (wires : List Wire) (words : List (List ℕ)) (content : Content) → in_line wires words ≡ Ok content → IsGood wires (nth words 1) content
 unfolding in_line
 in_good wires words content h =
-    content_tests wires (nth words 1) (demand (length words == 5) BadLine) (fresh wires (nth words 1)) (has_room wires) (kind_at (nth words 2)) (λ k. range_of k (nth words 3) (nth words 4)) content (λ done e. fresh_ok wires (nth words 1) done e) (λ k e. kind_good (nth words 2) k (ok_or_ok (kind_of (nth words 2)) BadType k e)) (λ k x e. range_good wires k (nth words 3) (nth words 4) x e) (λ done e. demand_ok (nat_lt (length wires) 512) TooMany done e) h
+    content_tests wires (nth words 1) (demand (length words == 5) BadLine) (fresh wires (nth words 1)) (has_room wires) (kind_at (nth words 2)) (λ k. input_of k (nth words 3) (nth words 4)) content (λ done e. fresh_ok wires (nth words 1) done e) (λ k e. kind_good (nth words 2) k (ok_or_ok (kind_of (nth words 2)) BadType k e)) (λ k x e. input_good wires k (nth words 3) (nth words 4) x e) (λ done e. demand_ok (nat_lt (length wires) 512) TooMany done e) h
 
 -- a constant gives a good wire
 const_good : (wires : List Wire) (words : List (List ℕ)) (content : Content) → const_line wires words ≡ Ok content → IsGood wires (nth words 1) content
 unfolding const_line
 const_good wires words content h =
-    content_tests wires (nth words 1) (demand (length words == 4) BadLine) (fresh wires (nth words 1)) (has_room wires) (kind_at (nth words 2)) (λ k. value_of k (nth words 3)) content (λ done e. fresh_ok wires (nth words 1) done e) (λ k e. kind_good (nth words 2) k (ok_or_ok (kind_of (nth words 2)) BadType k e)) (λ k x e. value_good wires k (nth words 3) x e) (λ done e. demand_ok (nat_lt (length wires) 512) TooMany done e) h
+    content_tests wires (nth words 1) (demand (length words == 4) BadLine) (fresh wires (nth words 1)) (has_room wires) (kind_at (nth words 2)) (λ k. const_of k (nth words 3)) content (λ done e. fresh_ok wires (nth words 1) done e) (λ k e. kind_good (nth words 2) k (ok_or_ok (kind_of (nth words 2)) BadType k e)) (λ k x e. const_of_good wires k (nth words 3) x e) (λ done e. demand_ok (nat_lt (length wires) 512) TooMany done e) h
 
 -- ---- a block
 
@@ -296,68 +298,62 @@ arguments_made wires (Ok k) (Ok m) (Ok n) given bx by bz h =
     let first : AreGiven wires made = record { x_below = bx k refl; y_below = by m refl; z_below = bz n refl } in
     subst (λ g. AreGiven wires g) same first
 
--- a wire that is reached is there
-reached_below : (wires : List Wire) (name : List ℕ) (place : ℕ) → reached wires name ≡ Ok place → nat_lt place (length wires) ≡ true
-reached_below wires name place h = place_within wires name place (ok_or_ok (place_of wires name) LaterWire place h)
+-- a wire above is there
+wire_above_below : (wires : List Wire) (name : List ℕ) (place : ℕ) → wire_above wires name ≡ Ok place → nat_lt place (length wires) ≡ true
+wire_above_below wires name place h = place_within wires name place (ok_or_ok (place_of wires name) LaterWire place h)
 
 -- a line's arguments are there
 arguments_good : (wires : List Wire) (routine : Routine) (words : List (List ℕ)) (given : Arguments) → arguments_of wires routine words ≡ Ok given → AreGiven wires given
 unfolding arguments_of
 arguments_good wires routine words given h =
-    arguments_made wires (reached wires (argument_at routine words 0)) (reached wires (argument_at routine words 1)) (reached wires (argument_at routine words 2)) given (reached_below wires (argument_at routine words 0)) (reached_below wires (argument_at routine words 1)) (reached_below wires (argument_at routine words 2)) h
+    arguments_made wires (wire_above wires (argument_at routine words 0)) (wire_above wires (argument_at routine words 1)) (wire_above wires (argument_at routine words 2)) given (wire_above_below wires (argument_at routine words 0)) (wire_above_below wires (argument_at routine words 1)) (wire_above_below wires (argument_at routine words 2)) h
 
--- a count of places is at most 15
-small_places : (z : ℤ) → (int_le (pos 0) z && int_le z (pos 15)) ≡ true → nat_le (unsigned_abs z) 15 ≡ true
-small_places (pos n) h = second_of_both (int_le (pos 0) (pos n)) (int_le (pos n) (pos 15)) h
-small_places (negsuc n) h = cc
+-- a shift that was read is one of its operation
+shift_in : (op : ArithOp) (z : ℤ) (test : Bool) (sh : ℕ) → (int_le (pos 0) z && is_shift op (unsigned_abs z)) ≡ test → (demand test OutOfRange >>= λ _. Ok (unsigned_abs z)) ≡ Ok sh → is_shift op sh ≡ true
+shift_in op z true sh e h =
+    subst (λ n. is_shift op n ≡ true) (same_found (unsigned_abs z) sh h) (second_of_both (int_le (pos 0) z) (is_shift op (unsigned_abs z)) e)
+shift_in op z false sh e h = cc
 
-places_in : (z : ℤ) (test : Bool) (sh : ℕ) → (int_le (pos 0) z && int_le z (pos 15)) ≡ test → (demand test OutOfRange >>= λ _. Ok (unsigned_abs z)) ≡ Ok sh → nat_le sh 15 ≡ true
-places_in z true sh e h = subst (λ n. nat_le n 15 ≡ true) (same_found (unsigned_abs z) sh h) (small_places z e)
-places_in z false sh e h = cc
+shift_tests : (op : ArithOp) (number : Result ℤ NetKind) (sh : ℕ) → (number >>= λ z. demand (int_le (pos 0) z && is_shift op (unsigned_abs z)) OutOfRange >>= λ _. Ok (unsigned_abs z)) ≡ Ok sh → is_shift op sh ≡ true
+shift_tests op (Err fault) sh h = cc
+shift_tests op (Ok z) sh h = shift_in op z (int_le (pos 0) z && is_shift op (unsigned_abs z)) sh refl h
 
-places_tests : (number : Result ℤ NetKind) (sh : ℕ) → (number >>= λ z. demand (int_le (pos 0) z && int_le z (pos 15)) OutOfRange >>= λ _. Ok (unsigned_abs z)) ≡ Ok sh → nat_le sh 15 ≡ true
-places_tests (Err fault) sh h = cc
-places_tests (Ok z) sh h = places_in z (int_le (pos 0) z && int_le z (pos 15)) sh refl h
+shift_at_good : (op : ArithOp) (word : List ℕ) (sh : ℕ) → shift_at op word ≡ Ok sh → is_shift op sh ≡ true
+unfolding shift_at
+shift_at_good op word sh h = shift_tests op (number_at word) sh h
 
-places_good : (word : List ℕ) (sh : ℕ) → places_at word ≡ Ok sh → nat_le sh 15 ≡ true
-unfolding places_at
-places_good word sh h = places_tests (number_at word) sh h
+no_shift : (sh : ℕ) → ◌≡◌ {A = Result ℕ NetKind} (Ok 0) (Ok sh) → (sh == 0) ≡ true
+no_shift sh h = subst (λ n. (n == 0) ≡ true) (same_found 0 sh h) refl
 
--- a count of places is one of the routine
-abbrev pub has_places : Routine → ℕ → Bool
-has_places (ArithOf op v) sh = is_shift op sh
-has_places (ScaledOf op v) sh = true
+-- so is the 0 of an operation that has none
+shift_or_none : (op : ArithOp) (found : Result ℕ NetKind) (sh : ℕ) → (found ≡ Ok sh → is_shift op sh ≡ true) → (if has_shift op then found else Ok 0) ≡ Ok sh → is_shift op sh ≡ true
+shift_or_none MulShRight found sh good h = good h
+shift_or_none DivShLeft found sh good h = good h
+shift_or_none other found sh good h = no_shift sh h
 
-no_places : (sh : ℕ) → ◌≡◌ {A = Result ℕ NetKind} (Ok 0) (Ok sh) → (sh == 0) ≡ true
-no_places sh h = subst (λ n. (n == 0) ≡ true) (same_found 0 sh h) refl
-
-shift_tests : (routine : Routine) (found : Result ℕ NetKind) (sh : ℕ) → ((n : ℕ) → found ≡ Ok n → nat_le n 15 ≡ true) → (if is_shifting routine then found else Ok 0) ≡ Ok sh → has_places routine sh ≡ true
-shift_tests (ArithOf MulShRight v) found sh few h = few sh h
-shift_tests (ArithOf DivShLeft v) found sh few h = few sh h
-shift_tests (ArithOf other v) found sh few h = no_places sh h
-shift_tests (ScaledOf op v) found sh few h = refl
-
-shift_good : (routine : Routine) (words : List (List ℕ)) (sh : ℕ) → shift_of routine words ≡ Ok sh → has_places routine sh ≡ true
+-- a routine's shift is one of its block
+shift_good : (routine : Routine) (words : List (List ℕ)) (given : Arguments) (sh : ℕ) → shift_of routine words ≡ Ok sh → has_good_numbers (block_of routine given sh) ≡ true
 unfolding shift_of
-shift_good routine words sh h =
-    shift_tests routine (places_at (nth words (5 + arity_of routine))) sh (places_good (nth words (5 + arity_of routine))) h
+shift_good (ArithOf op v) words given sh h =
+    let word = nth words (5 + arity_of (ArithOf op v)) in shift_or_none op (shift_at op word) sh (shift_at_good op word sh) h
+shift_good (ScaledOf op v) words given sh h = refl
 
 -- an argument below is earlier, where the routine has it and where it doesn't
 earlier_below : (i a : ℕ) (ty : Option Ty) → nat_lt a i ≡ true → is_earlier i ty a ≡ true
 earlier_below i a (Some ty) below = below
 earlier_below i a None below = refl
 
--- a block of earlier wires that agrees with them, with a count of places of its routine, is good
-block_good : (wires : List Wire) (routine : Routine) (kind : Kind) (given : Arguments) (sh : ℕ) → is_built_routine routine ≡ true → AreGiven wires given → agrees wires kind (block_of routine given 0) ≡ true → has_places routine sh ≡ true → IsGoodItem wires kind (OfBlock (block_of routine given sh))
-block_good wires (ArithOf op v) kind given sh built g typed places =
+-- a block of earlier wires that agrees with them, with numbers in their ranges, is good
+block_good : (wires : List Wire) (routine : Routine) (kind : Kind) (given : Arguments) (sh : ℕ) → is_built_routine routine ≡ true → AreGiven wires given → agrees wires kind (block_of routine given 0) ≡ true → has_good_numbers (block_of routine given sh) ≡ true → IsGoodItem wires kind (OfBlock (block_of routine given sh))
+block_good wires (ArithOf op v) kind given sh built g typed numbers =
     let b = block_of (ArithOf op v) given sh in
     record {
       built = built;
       earlier = true_if_both _ _ (true_if_both _ _ (earlier_below _ given.x.0 (type_read b 0) g.x_below) (earlier_below _ given.y.0 (type_read b 1) g.y_below)) (earlier_below _ given.z.0 (type_read b 2) g.z_below);
       agreed = typed;
-      in_range = places;
+      in_range = numbers;
     }
-block_good wires (ScaledOf op v) kind given sh built g typed places =
+block_good wires (ScaledOf op v) kind given sh built g typed numbers =
     let b = block_of (ScaledOf op v) given sh in
     record {
       built = refl;
@@ -389,14 +385,14 @@ agreed_good : (wires : List Wire) (block : Block) (word : List ℕ) (kind : Kind
 unfolding agreed
 agreed_good wires block word kind h = agreed_tests wires block word (kind_of word) kind refl h
 
--- what a wire's line uses: a routine that is built, earlier wires, a type that agrees and a count of places
+-- what a wire's line uses: a routine that is built, earlier wires, a type that agrees and numbers in their ranges
 record IsUsed (wires : List Wire) (routine : Routine) (word : List ℕ) (kind : Kind) (given : Arguments) (sh : ℕ) : Type 0 where
   built : is_built_routine routine ≡ true
   earlier : AreGiven wires given
   typed : IsAgreed wires (block_of routine given 0) word kind
-  places : has_places routine sh ≡ true
+  numbers : has_good_numbers (block_of routine given sh) ≡ true
 
--- from the count of places on
+-- from the shift on
 wire_made : (wires : List Wire) (name word : List ℕ) (routine : Routine) (given : Arguments) (k : Kind) (shift : Result ℕ NetKind) (room : Result (Unit {0}) NetKind) (content : Content) → IsFresh wires name → ((sh : ℕ) → shift ≡ Ok sh → IsUsed wires routine word k given sh) → ((done : Unit {0}) → room ≡ Ok done → nat_lt (length wires) 512 ≡ true) → (shift >>= λ sh. room >>= λ _. Ok (record { kind = k; item = OfBlock (block_of routine given sh) })) ≡ Ok content → IsGood wires name content
 wire_made wires name word routine given k (Err fault) room content new used r h = cc
 wire_made wires name word routine given k (Ok sh) (Err fault) content new used r h = cc
@@ -409,7 +405,7 @@ wire_made wires name word routine given k (Ok sh) (Ok done) content new used r h
       fresh = new.fresh;
       room = r done refl;
       kind = kind_good word k u.typed.found;
-      item = block_good wires routine k given sh u.built u.earlier u.typed.typed u.places;
+      item = block_good wires routine k given sh u.built u.earlier u.typed.typed u.numbers;
     } in
     subst (λ c. IsGood wires name c) same first
 
@@ -444,7 +440,7 @@ used_good wires words routine given k sh found arguments typed shift =
       built = routine_built (nth words 4) routine found;
       earlier = arguments_good wires routine words given arguments;
       typed = agreed_good wires (block_of routine given 0) (nth words 2) k typed;
-      places = shift_good routine words sh shift;
+      numbers = shift_good routine words given sh shift;
     }
 
 -- a wire of a routine is good
@@ -504,7 +500,7 @@ definition_good lines wires words content h =
 -- the number of a wire that isn't an output yet
 pub record IsGoodOut (wires : List Wire) (outs : List WireNo) (out : WireNo) : Type 0 where
   pub within : nat_lt out.0 (length wires) ≡ true
-  pub fresh : list_any (λ o. o.0 == out.0) outs ≡ false
+  pub fresh : is_among outs out ≡ false
 
 -- the wire is there
 out_made : (wires : List Wire) (outs : List WireNo) (found : Option ℕ) (out : WireNo) → ((place : ℕ) → found ≡ Some place → nat_lt place (length wires) ≡ true) → is_output outs found ≡ false → (ok_or found LaterWire >>= λ place. Ok (record { 0 = place })) ≡ Ok out → IsGoodOut wires outs out

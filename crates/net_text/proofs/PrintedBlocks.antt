@@ -21,7 +21,7 @@ use Rattle.net_model.specs.Built.{has_shift, is_shift}
 use Rattle.net_model.specs.Wires.{wire_at, place_of, argument_of}
 use Rattle.net_model.specs.Validity.{types_read, type_read, is_earlier, argument_agrees, reads_earlier, arguments_agree, agrees, is_number_of, takes_block, output_type, are_distinct}
 use Rattle.net_text.specs.declared.routine_word.Routine.TheVariants.{ArithOf, ScaledOf}
-use Rattle.net_text.specs.Forms.{argument_word, places_at, shift_of}
+use Rattle.net_text.specs.Forms.{argument_word, shift_at, shift_of}
 use Rattle.net_text.specs.Printing.{argument_words, shift_words}
 use Rattle.net_text.proofs.PrintedNames.{place_of-wire_at, wire_at-take}
 use Rattle.net_text.proofs.PrintedForms.{IsReadAs, block_line}
@@ -115,21 +115,21 @@ few_types_read (Arith op v x y z sh) = few_types op v
 few_types_read (Scaled Convert v x y) = (omega arith, omega arith)
 few_types_read (Scaled other v x y) = (omega arith, omega arith)
 
--- ---- counts of places
+-- ---- shifts
 
--- a count of places up to 15 is read again
-places_at-printed : (sh : ℕ) → leb sh 15 ≡ true → places_at (signed_decimal (pos sh)) ≡ Ok sh
-unfolding places_at
-places_at-printed sh most =
+-- a shift up to 15 is read again
+shift_at-printed : (op : ArithOp) (sh : ℕ) → leb sh 15 ≡ true → is_shift op sh ≡ true → shift_at op (signed_decimal (pos sh)) ≡ Ok sh
+unfolding shift_at
+shift_at-printed op sh most good =
     let small : sh ≤ 15 = leb-true sh 15 most in
     let least : int_le (pos 0) (pos sh) ≡ true = grind (arith, nat_tests) in
-    rw (number_of-signed_decimal (pos sh) (omega arith), most, least)
+    rw (number_of-signed_decimal (pos sh) (omega arith), least, good)
 
 shift_of-printed : (op : ArithOp) (v : Variant) (x y z : WireNo) (sh : ℕ) (name kw rname nx ny nz : List ℕ) → is_shift op sh ≡ true
     → shift_of (ArithOf op v) (routine_line name kw rname (argument_types op v) (nx ∷ ny ∷ nz ∷ []) (shift_words (Arith op v x y z sh))) ≡ Ok sh
 unfolding shift_of
-shift_of-printed MulShRight v x y z sh name kw rname nx ny nz good = places_at-printed sh good
-shift_of-printed DivShLeft v x y z sh name kw rname nx ny nz good = places_at-printed sh good
+shift_of-printed MulShRight v x y z sh name kw rname nx ny nz good = shift_at-printed MulShRight sh good good
+shift_of-printed DivShLeft v x y z sh name kw rname nx ny nz good = shift_at-printed DivShLeft sh good good
 shift_of-printed other v x y z sh name kw rname nx ny nz good = ap (λ n. Ok n) (sym (eqb-true sh 0 good))
 
 -- ---- the whole

@@ -12,7 +12,7 @@ use Rattle.net_text.specs.declared.routine_word.Routine.{Routine}
 use Rattle.net_text.specs.declared.routine_word.Arguments.{Arguments}
 use Rattle.net_text.specs.TypeWords.{kind_of, is_position}
 use Rattle.net_text.specs.RoutineWords.{routine_at, types_of, block_of}
-use Rattle.net_text.specs.Forms.{is_wire, is_known, fresh, range_of, value_of, in_line, const_line, argument_word, arguments_of, shift_of, words_wanted, agreed, wire_line, is_output, out_line}
+use Rattle.net_text.specs.Forms.{is_wire, is_known, fresh, input_of, const_of, in_line, const_line, argument_word, arguments_of, shift_of, words_wanted, agreed, wire_line, is_output, out_line}
 
 -- a name that no wire so far has, and room for its wire
 pub record IsNew (wires : List Wire) (name : List ℕ) : Type 0 where
@@ -24,12 +24,12 @@ pub record IsNew (wires : List Wire) (name : List ℕ) : Type 0 where
 
 pub in_line-reads : (wires : List Wire) (name kw low high : List ℕ) (kind : Kind) (lo hi : ℤ) → IsNew wires name → kind_of kw ≡ Some kind → number_of low ≡ Some lo → number_of high ≡ Some hi
     → (kind_holds kind lo && kind_holds kind hi && int_le lo hi) ≡ true → in_line wires (codes "in" ∷ name ∷ kw ∷ low ∷ high ∷ []) ≡ Ok (record { kind = kind; item = Input lo hi })
-unfolding in_line fresh range_of
+unfolding in_line fresh input_of
 in_line-reads wires name kw low high kind lo hi new kind_is low_is high_is holds = rw (new.named, new.fresh, kind_is, low_is, high_is, holds, new.room)
 
 pub const_line-reads : (wires : List Wire) (name kw word : List ℕ) (kind : Kind) (value : ℤ) → IsNew wires name → kind_of kw ≡ Some kind → number_of word ≡ Some value
     → kind_holds kind value ≡ true → const_line wires (codes "const" ∷ name ∷ kw ∷ word ∷ []) ≡ Ok (record { kind = kind; item = Const value })
-unfolding const_line fresh value_of
+unfolding const_line fresh const_of
 const_line-reads wires name kw word kind value new kind_is value_is holds = rw (new.named, new.fresh, kind_is, value_is, holds, new.room)
 
 -- ---- wires

@@ -2,8 +2,7 @@
 use Rattle.std.proofs.Common.{◌≡◌, ℕ, zero, suc, ◌≤◌, ◌<◌, true, false, List, [], ◌∷◌, ◌++◌, leb-true, pos, Some, option_map, refl, ap, ◌∙◌, arith}
 use Rattle.std.specs.Fmt.{digits, signed_decimal}
 use Rattle.std.specs.List.{list_all}
-use Rattle.text_words.specs.Printed.{is_printed, is_word}
-use Rattle.text_words.proofs.PrintedWords.{is_word-append, printed-word, is_word-signed_decimal}
+use Rattle.text_words.proofs.PrintedWords.{is_printed, is_word, is_word-append, printed-word, is_word-signed_decimal}
 use Rattle.fx_core.specs.declared.word_type.Ty.{Ty}
 use Rattle.fx_core.specs.declared.word_type.Ty.TheVariants.{U8, S8, U16, S16, U32, S32}
 use Rattle.fx_routines.specs.Names.{type_word}

@@ -10,7 +10,7 @@ use Rattle.std.proofs.lemmas.Slice.Eq.{bytes_eq-Decides}
 use Rattle.net_model.specs.declared.wires.WireNo.{WireNo}
 use Rattle.net_model.specs.declared.wires.Wire.{Wire}
 use Rattle.net_model.specs.Wires.{no_wire, wire_at, place_of}
-use Rattle.net_model.specs.Validity.{are_distinct, are_distinct_outs}
+use Rattle.net_model.specs.Validity.{are_distinct, is_among, are_distinct_outs}
 use Rattle.net_text.specs.Forms.{is_wire}
 
 from_not : (b : Bool) → not b ≡ true → b ≡ false
@@ -90,10 +90,13 @@ numbers_differ (o ∷ outs) zero (suc j) d e distinct before within =
 numbers_differ (o ∷ outs) (suc k) (suc j) d e distinct before within =
     numbers_differ outs k j d e (and_parts (not (list_any (λ m. eqb o.0 m.0) outs)) (are_distinct_outs outs) distinct).1 (omega arith) (omega arith)
 
+other_way : (m n : ℕ) → eqb n m ≡ false → eqb m n ≡ false
+other_way m n h = grind (arith, nat_tests)
+
 -- the next output is none of those so far
-pub next_output_is_new : (outs : List WireNo) (j : ℕ) (e : WireNo) → are_distinct_outs outs ≡ true → j < length outs → list_any (λ o. eqb o.0 (get_or outs j e).0) (take j outs) ≡ false
+pub next_output_is_new : (outs : List WireNo) (j : ℕ) (e : WireNo) → are_distinct_outs outs ≡ true → j < length outs → is_among (take j outs) (get_or outs j e) ≡ false
 next_output_is_new outs j e distinct within =
     let long = length-take-le j outs (omega arith) in
-    list_any_none (λ o. eqb o.0 (get_or outs j e).0) (take j outs) (λ k d inside.
+    list_any_none (λ o. eqb (get_or outs j e).0 o.0) (take j outs) (λ k d inside.
     let before : k < j = omega arith in
-    ap (λ o. eqb o.0 (get_or outs j e).0) (get_or-take j outs k d before) ∙ numbers_differ outs k j d e distinct before within)
+    ap (λ o. eqb (get_or outs j e).0 o.0) (get_or-take j outs k d before) ∙ other_way (get_or outs j e).0 (get_or outs k d).0 (numbers_differ outs k j d e distinct before within))

@@ -6,8 +6,7 @@ use Rattle.std.proofs.lemmas.Bool.{and_parts, and_from}
 use Rattle.std.proofs.lemmas.List.Folds.{list_all-append}
 use Rattle.std.proofs.lemmas.List.Sums.{AllPass-from_list_all}
 use Rattle.text_words.specs.Names.{is_name}
-use Rattle.text_words.specs.Printed.{is_word, are_words}
-use Rattle.text_words.proofs.PrintedWords.{is_word-name, is_word-signed_decimal}
+use Rattle.text_words.proofs.PrintedWords.{is_word, are_words, is_word-name, is_word-signed_decimal}
 use Rattle.fx_core.specs.declared.word_type.Ty.{Ty}
 use Rattle.fx_routines.specs.declared.operation.ArithOp.TheVariants.{MulShRight, DivShLeft}
 use Rattle.net_model.specs.declared.wires.WireNo.{WireNo}

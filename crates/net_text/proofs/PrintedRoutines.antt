@@ -2,8 +2,7 @@
 use Rattle.std.proofs.Common.{◌≡◌, ℕ, zero, suc, ◌<◌, Bool, true, List, [], ◌∷◌, length, slice_index_or, Some, Ok, refl, ap, subst, ◌∙◌, arith}
 use Rattle.std.specs.List.{list_all}
 use Rattle.std.proofs.lemmas.Bool.{and_parts}
-use Rattle.text_words.specs.Printed.{is_printed, is_word}
-use Rattle.text_words.proofs.PrintedWords.{printed-append, printed-word, is_word-append}
+use Rattle.text_words.proofs.PrintedWords.{is_printed, is_word, printed-append, printed-word, is_word-append}
 use Rattle.fx_core.specs.declared.word_type.Ty.{Ty}
 use Rattle.fx_routines.specs.declared.operation.Variant.{Variant}
 use Rattle.fx_routines.specs.declared.shape.Part.{Part}

@@ -103,6 +103,4 @@ after_wire lines wires outs i name kind (Const value) distinct within new ok =
     rw (const_line-reads (take i wires) name (kind_word kind) (signed_decimal value) kind value new (kind_of-kind_word kind ok.kind_good)
     (number_of-signed_decimal value (kind_holds-short kind value ok.in_range)) ok.in_range)
 after_wire lines wires outs i name kind (OfBlock b) distinct within new ok =
-    let rest = argument_words wires b ++ shift_words b in
-    let some : eqb (length (block_line name (kind_word kind) (block_name b) rest)) 0 ≡ false = ne_eqb _ 0 (λ none. omega arith) in
-    rw (some, block_is_read lines wires i name kind b distinct within new ok.kind_good ok.earlier ok.agree ok.in_range ok.named)
+    rw (block_is_read lines wires i name kind b distinct within new ok.kind_good ok.earlier ok.agree ok.in_range ok.named)

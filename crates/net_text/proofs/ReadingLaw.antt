@@ -7,11 +7,9 @@ use Rattle.std.proofs.lemmas.List.Folds.{list_any-append, list_all-append}
 use Rattle.std.proofs.lemmas.Bool.{and_parts}
 use Rattle.std.proofs.lemmas.Bool.Decides.{nat_tests}
 use Rattle.text_words.specs.Names.{is_name}
-use Rattle.text_words.specs.Lines.{lines_of, nth, words_of}
+use Rattle.text_words.specs.Lines.{lines_of, nth}
 use Rattle.fx_core.specs.declared.word_type.Ty.{Ty}
 use Rattle.net_model.specs.declared.network.NetKind.{NetKind}
-use Rattle.net_model.specs.declared.network.NetKind.TheVariants.{Missing}
-use Rattle.net_text.specs.declared.reader.NetFault.{NetFault}
 use Rattle.net_model.specs.declared.wires.WireNo.{WireNo}
 use Rattle.net_model.specs.declared.wires.Kind.{Kind}
 use Rattle.net_model.specs.declared.wires.Block.{Block}
@@ -21,9 +19,10 @@ use Rattle.net_model.specs.declared.wires.Wire.{Wire}
 use Rattle.net_text.specs.declared.line_forms.Content.{Content}
 use Rattle.net_model.specs.Wires.{NetData, no_wire, argument_of}
 use Rattle.net_model.specs.Validity.{is_number_of, type_read, takes_block, output_type, is_earlier, argument_agrees, reads_earlier, arguments_agree, is_built_item, item_reads_earlier, item_agrees, item_in_range, is_good_wire, is_good_kind, are_good_from, are_distinct, is_among, are_distinct_outs, has_ends, is_valid, IsValid}
-use Rattle.text_words.specs.Steps.{◌>>=◌, demand}
+use Rattle.text_words.specs.Steps.{◌>>=◌}
+use Rattle.text_words.proofs.ReaderSteps.{kept_by_text}
 use Rattle.net_text.specs.Forms.{out_line, defining_line}
-use Rattle.net_text.specs.Text.{located, after_out, after_definition, after_line, ended, walked, is_head, no_head, from_head, network_of}
+use Rattle.net_text.specs.Text.{after_out, after_definition, after_line, net_reader, network_of}
 use Rattle.net_text.proofs.GoodLines.{IsGood, IsGoodOut, is_wire-named, definition_good, output_line_good, true_if_both, first_of_both, second_of_both}
 
 -- ---- one more wire leaves the wires before it good
@@ -112,11 +111,14 @@ are_distinct-last (m ∷ names) name d new =
     true_if_both _ _ (none_more (bytes_eq m) names name (first_of_both (not (list_any (bytes_eq m) names)) (are_distinct names) d) apart.0) (are_distinct-last names name (second_of_both (not (list_any (bytes_eq m) names)) (are_distinct names) d) apart.1)
 
 -- one more output that is new
-are_distinct_outs-last : (outs : List WireNo) (o : WireNo) → are_distinct_outs outs ≡ true → list_any (λ m. m.0 == o.0) outs ≡ false → are_distinct_outs (outs ++ o ∷ []) ≡ true
+other_way : (m n : ℕ) → (n == m) ≡ false → (m == n) ≡ false
+other_way m n h = grind (arith, nat_tests)
+
+are_distinct_outs-last : (outs : List WireNo) (o : WireNo) → are_distinct_outs outs ≡ true → is_among outs o ≡ false → are_distinct_outs (outs ++ o ∷ []) ≡ true
 are_distinct_outs-last [] o d new = refl
 are_distinct_outs-last (m ∷ outs) o d new =
-    let apart = or_false (m.0 == o.0) (list_any (λ m. m.0 == o.0) outs) new in
-    true_if_both _ _ (none_more (λ k. m.0 == k.0) outs o (first_of_both (not (is_among outs m)) (are_distinct_outs outs) d) apart.0) (are_distinct_outs-last outs o (second_of_both (not (is_among outs m)) (are_distinct_outs outs) d) apart.1)
+    let apart = or_false (o.0 == m.0) (is_among outs o) new in
+    true_if_both _ _ (none_more (λ k. m.0 == k.0) outs o (first_of_both (not (is_among outs m)) (are_distinct_outs outs) d) (other_way m.0 o.0 apart.0)) (are_distinct_outs-last outs o (second_of_both (not (is_among outs m)) (are_distinct_outs outs) d) apart.1)
 
 -- a test of what is mapped
 list_any-map : {X Y : Type 0} (f : X → Y) (p : Y → Bool) (xs : List X) → list_any p (map f xs) ≡ list_any (λ x. p (f x)) xs
@@ -212,18 +214,17 @@ out_step net (Ok out) next s g h =
     subst (λ n. IsSound n) same (more_outs_sound net out s (g out refl))
 
 -- whichever form the line has
-line_step : (net next : NetData) (no_words is_out : Bool) (out definition : Result NetData NetKind) → IsSound net → (out ≡ Ok next → IsSound next) → (definition ≡ Ok next → IsSound next) → cond no_words (Ok net) (cond is_out out definition) ≡ Ok next → IsSound next
-line_step net next true is_out out definition s f g h = let same : net ≡ next = cc in subst (λ n. IsSound n) same s
-line_step net next false true out definition s f g h = f h
-line_step net next false false out definition s f g h = g h
+line_step : (next : NetData) (is_out : Bool) (out definition : Result NetData NetKind) → (out ≡ Ok next → IsSound next) → (definition ≡ Ok next → IsSound next) → cond is_out out definition ≡ Ok next → IsSound next
+line_step next true out definition f g h = f h
+line_step next false out definition f g h = g h
 
 -- each line leaves it sound
 after_line_sound : (lines : List (List ℕ)) (net : NetData) (words : List (List ℕ)) (next : NetData) → IsSound net → after_line lines net words ≡ Ok next → IsSound next
 unfolding after_line after_out after_definition
 after_line_sound lines net words next s h =
-    line_step net next (length words == 0) (bytes_eq (nth words 0) (codes "out")) (after_out lines net words) (after_definition lines net words) s (out_step net (out_line lines net.wires net.outs words) next s (output_line_good lines net.wires net.outs words)) (definition_step net (nth words 1) (defining_line lines net.wires words) next s (definition_good lines net.wires words)) h
+    line_step next (bytes_eq (nth words 0) (codes "out")) (after_out lines net words) (after_definition lines net words) (out_step net (out_line lines net.wires net.outs words) next s (output_line_good lines net.wires net.outs words)) (definition_step net (nth words 1) (defining_line lines net.wires words) next s (definition_good lines net.wires words)) h
 
--- ---- the end
+-- ---- the whole
 
 -- what is sound and has ends is valid
 sound_valid : (net : NetData) → IsSound net → has_ends net.wires net.outs ≡ true → IsValid net
@@ -231,38 +232,9 @@ unfolding is_valid
 sound_valid net s e =
     true_if_both _ _ (true_if_both _ _ (true_if_both _ _ (true_if_both _ _ (true_if_both _ _ s.few s.distinct) s.good) s.within) s.once) e
 
--- the end tests the ends
-ended_valid : (above : ℕ) (net last : NetData) (ends : Bool) → IsSound net → has_ends net.wires net.outs ≡ ends → located above (demand ends Missing >>= λ _. Ok net) ≡ Ok last → IsValid last
-ended_valid above net last true s e h =
-    let same : net ≡ last = cc in subst (λ n. IsValid n) same (sound_valid net s e)
-ended_valid above net last false s e h = cc
-
--- a line that has no fault, and then the rest
-step_valid : (line : ℕ) (made : Result NetData NetKind) (rest : NetData → Result NetData NetFault) (last : NetData) → ((next : NetData) → made ≡ Ok next → rest next ≡ Ok last → IsValid last) → (located line made >>= rest) ≡ Ok last → IsValid last
-step_valid line (Err kind) rest last f h = cc
-step_valid line (Ok next) rest last f h = f next refl h
-
--- all lines below the head
-walked_valid : (lines : List (List ℕ)) (above : ℕ) (net : NetData) (rest : List (List ℕ)) (last : NetData) → IsSound net → walked lines above net rest ≡ Ok last → IsValid last
-unfolding walked ended
-walked_valid lines above net [] last s h = ended_valid above net last (has_ends net.wires net.outs) s refl h
-walked_valid lines above net (line ∷ rest) last s h =
-    step_valid (above + 1) (after_line lines net (words_of line)) (λ next. walked lines (above + 1) next rest) last (λ next e. walked_valid lines (above + 1) next rest last (after_line_sound lines net (words_of line) next s e)) h
-
--- a line without words, the head, or no head
-head_valid : (no_words head : Bool) (later below : Result NetData NetFault) (line : ℕ) (last : NetData) → (later ≡ Ok last → IsValid last) → (below ≡ Ok last → IsValid last) → cond no_words later (cond head below (no_head line)) ≡ Ok last → IsValid last
-head_valid true head later below line last f g h = f h
-head_valid false true later below line last f g h = g h
-head_valid false false later below line last f g h = cc
-
--- all lines
-from_head_valid : (lines : List (List ℕ)) (above : ℕ) (rest : List (List ℕ)) (last : NetData) → from_head lines above rest ≡ Ok last → IsValid last
-unfolding from_head
-from_head_valid lines above [] last h = cc
-from_head_valid lines above (line ∷ rest) last h =
-    head_valid (length (words_of line) == 0) (is_head (words_of line)) (from_head lines (above + 1) rest) (walked lines (above + 1) start rest) (above + 1) last (from_head_valid lines (above + 1) rest last) (walked_valid lines (above + 1) start rest last start_sound) h
-
 -- the law
 pub network_of_valid : (text : List ℕ) (net : NetData) → network_of text ≡ Ok net → IsValid net
 unfolding network_of
-network_of_valid text net h = from_head_valid (lines_of text) 0 (lines_of text) net h
+network_of_valid text net h =
+    let kept = kept_by_text (net_reader (lines_of text)) IsSound text net (λ before words next s made. after_line_sound (lines_of text) before words next s made) start_sound h in
+    sound_valid net kept.0 kept.1

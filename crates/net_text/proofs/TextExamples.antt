@@ -18,9 +18,10 @@ use Rattle.net_model.specs.declared.wires.Item.TheVariants.{Input, Const, Block 
 use Rattle.net_model.specs.Wires.{NetData, place_of}
 use Rattle.net_text.specs.TypeWords.{point_of_word, number_kind_of, kind_of, is_position}
 use Rattle.net_text.specs.RoutineWords.{routine_at}
-use Rattle.net_text.specs.Forms.{keyword_of, is_defined, is_known, arguments_of, places_at, shift_of, fresh, range_of, value_of, agreed, in_line, const_line, wire_line, unbuilt_line, line_of, out_line, defining_line}
+use Rattle.net_text.specs.Forms.{keyword_of, is_defined, is_known, arguments_of, shift_at, shift_of, fresh, input_of, const_of, agreed, in_line, const_line, wire_line, unbuilt_line, line_of, out_line, defining_line}
 use Rattle.net_text.specs.Printing.{block_name, text_of}
-use Rattle.net_text.specs.Text.{after_out, after_definition, after_line, ended, walked, from_head, network_of}
+use Rattle.net_text.specs.Text.{after_out, after_definition, after_line, network_of}
+use Rattle.text_words.specs.Readers.{said_by, head_below, read_below, behind_line, behind_all}
 
 -- the first fault of a text, by its line and its kind
 abbrev HasFault : List ℕ → ℕ → NetKind → Type 0
@@ -28,7 +29,7 @@ HasFault text line kind = network_of text ≡ Err (record { line = line; kind = 
 
 -- no bytes, comments, a head behind another line, and a head of another version
 heads : HasFault [] 1 NoHead × HasFault (codes "# nothing\n\n") 1 NoHead × HasFault (codes "# a\n\nin x s16 0 4\nnet 1\n") 3 NoHead × HasFault (codes "net 01\n") 1 NoHead
-unfolding network_of from_head lines_of lines_from words_of
+unfolding network_of said_by head_below lines_of lines_from words_of
 heads = (refl, refl, refl, refl)
 
 -- the first line below `net 1` and an input
@@ -37,28 +38,28 @@ HasFaultBelow line kind = HasFault (codes "net 1\nin x s16 0 4\n" ++ line) 3 kin
 
 -- a second head, a bad name before its type, a name that comes again, and a type that the line doesn't take
 names_and_types : HasFaultBelow (codes "net 1\n") BadLine × HasFaultBelow (codes "in 1 s17 0 4\n") BadName × HasFaultBelow (codes "const x s17 0\n") Repeated × HasFaultBelow (codes "in y dp:x 0 4\n") BadType
-unfolding network_of from_head lines_of lines_from words_of walked after_line after_definition keyword_of defining_line line_of in_line const_line fresh place_of range_of value_of kind_of number_kind_of point_of_word is_name number_of
+unfolding network_of said_by head_below lines_of lines_from words_of read_below behind_line after_line after_definition keyword_of defining_line line_of in_line const_line fresh place_of input_of const_of kind_of number_kind_of point_of_word is_name number_of
 names_and_types = (refl, refl, refl, refl)
 
 -- an axis with a point in its type, an axis, and a delay, whose source is no wire
 not_built : HasFaultBelow (codes "axis a s16.0 0\n") BadType × HasFaultBelow (codes "axis a s16 0\n") NotBuilt × HasFaultBelow (codes "delay y s16 0 = z\n") NotBuilt
-unfolding network_of from_head lines_of lines_from words_of walked after_line after_definition keyword_of defining_line line_of in_line unbuilt_line fresh place_of range_of kind_of number_kind_of point_of_word is_position is_name number_of
+unfolding network_of said_by head_below lines_of lines_from words_of read_below behind_line after_line after_definition keyword_of defining_line line_of in_line unbuilt_line fresh place_of input_of kind_of number_kind_of point_of_word is_position is_name number_of
 not_built = (refl, refl, refl)
 
 -- a routine that there isn't, one that isn't built, and too few arguments
 routines : HasFaultBelow (codes "wire y s16 = Mfx_Add_s8s16_s16 x z\n") UnknownRoutine × HasFaultBelow (codes "wire y s16 = Mfx_Mod_s16s16_s16 x\n") NotBuilt × HasFaultBelow (codes "wire y s16 = Mfx_Add_s16s16_s16 z\n") BadCount
-unfolding network_of from_head lines_of lines_from words_of walked after_line after_definition keyword_of defining_line line_of in_line wire_line fresh place_of range_of kind_of number_kind_of point_of_word is_position routine_at named rows row_named read_parts read_part read_first read_second read_output read_word first_type after is_name number_of
+unfolding network_of said_by head_below lines_of lines_from words_of read_below behind_line after_line after_definition keyword_of defining_line line_of in_line wire_line fresh place_of input_of kind_of number_kind_of point_of_word is_position routine_at named rows row_named read_parts read_part read_first read_second read_output read_word first_type after is_name number_of
 routines = (refl, refl, refl)
 
 -- an argument that no line defines, one that this line defines, one that a line below defines, one of another type,
 -- and a type that no block gives
 arguments : HasFaultBelow (codes "wire y s16 = Mfx_Add_s16s16_s16 x z\n") UnknownName × HasFaultBelow (codes "wire y s16 = Mfx_Add_s16s16_s16 x y\n") LaterWire × HasFaultBelow (codes "wire y s16 = Mfx_Add_s16s16_s16 z x\naxis z\n") LaterWire × HasFaultBelow (codes "wire y s16 = Mfx_Add_s8s8_s16 x x\n") TypeDiffers × HasFaultBelow (codes "wire y dp:x = Mfx_ConvertP2_s16_s16 x\n") TypeDiffers
-unfolding network_of from_head lines_of lines_from words_of walked after_line after_definition keyword_of defining_line line_of in_line wire_line fresh place_of is_known is_defined arguments_of agreed range_of kind_of number_kind_of point_of_word is_position routine_at named rows row_of row_named read_parts read_part read_first read_second read_output read_word first_type after is_name number_of
+unfolding network_of said_by head_below lines_of lines_from words_of read_below behind_line after_line after_definition keyword_of defining_line line_of in_line wire_line fresh place_of is_known is_defined arguments_of agreed input_of kind_of number_kind_of point_of_word is_position routine_at named rows row_of row_named read_parts read_part read_first read_second read_output read_word first_type after is_name number_of
 arguments = (refl, refl, refl, refl, refl)
 
 -- a count of places that is no number, and one above 15; an empty range; and no output, told at the last line
 numbers : HasFaultBelow (codes "wire y s16 = Mfx_MulShRight_s16s16u8_s16 x x x\n") BadNumber × HasFaultBelow (codes "wire y s16 = Mfx_MulShRight_s16s16u8_s16 x x 16\n") OutOfRange × HasFaultBelow (codes "in y s16 5 4\n") OutOfRange × HasFaultBelow (codes "\n") Missing
-unfolding network_of from_head lines_of lines_from words_of walked after_line after_definition keyword_of defining_line line_of in_line wire_line fresh place_of is_known is_defined arguments_of shift_of places_at agreed range_of kind_of number_kind_of point_of_word is_position routine_at named rows row_of row_named read_parts read_part read_first read_second read_output read_word first_type after is_name number_of ended
+unfolding network_of said_by head_below lines_of lines_from words_of read_below behind_line after_line after_definition keyword_of defining_line line_of in_line wire_line fresh place_of is_known is_defined arguments_of shift_of shift_at agreed input_of kind_of number_kind_of point_of_word is_position routine_at named rows row_of row_named read_parts read_part read_first read_second read_output read_word first_type after is_name number_of behind_all
 numbers = (refl, refl, refl, refl)
 
 -- a good one
@@ -74,7 +75,7 @@ summed = record {
 }
 
 good_text : network_of (codes "net 1 # a sum\n\nin x s16 0 4\nconst k s16.07 -3\nwire y s32 = Mfx_Add_s16s16_s32 x k\nwire z s16.12 = Mfx_ConvertP2_s32_s16 y\nout z\nout y\n") ≡ Ok summed
-unfolding network_of from_head lines_of lines_from words_of walked after_line after_out after_definition keyword_of defining_line line_of in_line const_line wire_line out_line fresh place_of is_known is_defined arguments_of shift_of places_at agreed range_of value_of kind_of number_kind_of point_of_word is_position routine_at named rows row_of row_named read_parts read_part read_first read_second read_output read_word first_type after is_name number_of ended
+unfolding network_of said_by head_below lines_of lines_from words_of read_below behind_line after_line after_out after_definition keyword_of defining_line line_of in_line const_line wire_line out_line fresh place_of is_known is_defined arguments_of shift_of shift_at agreed input_of const_of kind_of number_kind_of point_of_word is_position routine_at named rows row_of row_named read_parts read_part read_first read_second read_output read_word first_type after is_name number_of behind_all
 good_text = refl
 
 -- and its canonical text

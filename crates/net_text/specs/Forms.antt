@@ -1,5 +1,5 @@
 -- The lines of a network's text, one definition for each form. The order of its lines is the order in which a
--- line is tested; the first test that fails says what is wrong.
+-- line is tested; the first test that fails says what is wrong. `AreBelow` is for a private function's clause.
 use Rattle.std.specs.Prelude.{ℕ, ◌+◌, ◌<◌, Bool, true, false, not, ◌&&◌, ◌||◌, ◌==◌, nat_le, nat_lt, int_le, List, length, ℤ, pos, unsigned_abs, slice_get, codes, bytes_eq, Option, Some, None, ok_or, is_some, Result, Ok, Err, if◌then◌else◌}
 use Rattle.std.specs.List.{list_any}
 use Rattle.text_words.specs.Lines.{nth, words_of}
@@ -8,6 +8,7 @@ use Rattle.text_words.specs.Numbers.{number_of}
 use Rattle.text_words.specs.Steps.{◌>>=◌, demand}
 use Rattle.fx_core.specs.declared.word_type.Ty.{Ty}
 use Rattle.fx_core.specs.declared.word_type.Ty.TheVariants.{U8, S8, U16, S16}
+use Rattle.fx_routines.specs.declared.operation.ArithOp.{ArithOp}
 use Rattle.net_model.specs.declared.network.NetKind.{NetKind}
 use Rattle.net_model.specs.declared.network.NetKind.TheVariants.{BadLine, BadName, Repeated, BadType, NotBuilt, BadCount, UnknownName, LaterWire, TypeDiffers, BadNumber, OutOfRange, TooMany}
 use Rattle.net_model.specs.declared.wires.WireNo.{WireNo}
@@ -17,12 +18,14 @@ use Rattle.net_model.specs.declared.wires.Item.{Item}
 use Rattle.net_model.specs.declared.wires.Item.TheVariants.{Input, Const, Block as OfBlock}
 use Rattle.net_model.specs.declared.wires.Wire.{Wire}
 use Rattle.net_text.specs.declared.routine_word.Routine.{Routine}
+use Rattle.net_text.specs.declared.routine_word.Routine.TheVariants.{ArithOf, ScaledOf}
 use Rattle.net_text.specs.declared.routine_word.Arguments.{Arguments}
 use Rattle.net_text.specs.declared.keyword.Keyword.{Keyword}
 use Rattle.net_text.specs.declared.keyword.Keyword.TheVariants.{InLine, ConstLine, AxisLine, AxisStepLine, AxisShiftLine, TableLine, MapLine, WireLine, DelayLine}
 use Rattle.net_text.specs.declared.line_forms.Content.{Content}
 use Rattle.net_model.specs.Wires.{place_of}
-use Rattle.net_model.specs.Validity.{kind_holds, agrees, most_wires}
+use Rattle.net_model.specs.Built.{has_shift, is_shift}
+use Rattle.net_model.specs.Validity.{item_in_range, agrees, is_among, most_wires}
 use Rattle.net_text.specs.TypeWords.{kind_of, ty_of, axis_name, is_position}
 use Rattle.net_text.specs.RoutineWords.{routine_at, types_of, arity_of, is_shifting, block_of}
 
@@ -63,8 +66,8 @@ unfoldable pub is_known : List (List ℕ) → List Wire → List ℕ → Bool
 is_known lines wires name = is_wire wires name || is_defined lines name
 
 -- the number of a wire that is used, which a line above defines
-abbrev pub reached : List Wire → List ℕ → Result ℕ NetKind
-reached wires name = ok_or (place_of wires name) LaterWire
+abbrev pub wire_above : List Wire → List ℕ → Result ℕ NetKind
+wire_above wires name = ok_or (place_of wires name) LaterWire
 
 -- a name that no line above defines
 unfoldable pub fresh : List Wire → List ℕ → Result (Unit {0}) NetKind
@@ -82,20 +85,24 @@ has_room wires = demand (nat_lt (length wires) most_wires) TooMany
 abbrev pub number_at : List ℕ → Result ℤ NetKind
 number_at word = ok_or (number_of word) BadNumber
 
--- an input whose range lies in the kind and isn't empty
-unfoldable pub range_of : Kind → List ℕ → List ℕ → Result Item NetKind
-range_of kind low high = do
+-- an item whose numbers lie in their ranges
+abbrev pub in_range : Kind → Item → Result Item NetKind
+in_range kind item = do
+  _ ← demand (item_in_range kind item) OutOfRange
+  Ok item
+
+-- an input with the declared range that two words write
+unfoldable pub input_of : Kind → List ℕ → List ℕ → Result Item NetKind
+input_of kind low high = do
   lo ← number_at low
   hi ← number_at high
-  _ ← demand (kind_holds kind lo && kind_holds kind hi && int_le lo hi) OutOfRange
-  Ok (Input lo hi)
+  in_range kind (Input lo hi)
 
--- a constant of the kind
-unfoldable pub value_of : Kind → List ℕ → Result Item NetKind
-value_of kind word = do
+-- a constant with the value that a word writes
+unfoldable pub const_of : Kind → List ℕ → Result Item NetKind
+const_of kind word = do
   value ← number_at word
-  _ ← demand (kind_holds kind value) OutOfRange
-  Ok (Const value)
+  in_range kind (Const value)
 
 -- ---- types
 
@@ -130,7 +137,7 @@ in_line wires words = do
   _ ← demand (length words == 5) BadLine
   _ ← fresh wires (nth words 1)
   kind ← kind_at (nth words 2)
-  item ← range_of kind (nth words 3) (nth words 4)
+  item ← input_of kind (nth words 3) (nth words 4)
   _ ← has_room wires
   Ok (record { kind = kind; item = item })
 
@@ -140,7 +147,7 @@ const_line wires words = do
   _ ← demand (length words == 4) BadLine
   _ ← fresh wires (nth words 1)
   kind ← kind_at (nth words 2)
-  item ← value_of kind (nth words 3)
+  item ← const_of kind (nth words 3)
   _ ← has_room wires
   Ok (record { kind = kind; item = item })
 
@@ -160,27 +167,28 @@ argument_at routine words p = argument_word words p (type_at routine p)
 -- the wires that a routine is given
 unfoldable pub arguments_of : List Wire → Routine → List (List ℕ) → Result Arguments NetKind
 arguments_of wires routine words = do
-  x ← reached wires (argument_at routine words 0)
-  y ← reached wires (argument_at routine words 1)
-  z ← reached wires (argument_at routine words 2)
+  x ← wire_above wires (argument_at routine words 0)
+  y ← wire_above wires (argument_at routine words 1)
+  z ← wire_above wires (argument_at routine words 2)
   Ok (record { x = record { 0 = x }; y = record { 0 = y }; z = record { 0 = z } })
 
 -- each of them is one of so many wires
 abbrev pub AreBelow : ℕ → Arguments → Type 0
-AreBelow count given = (given.x.0 < count) × (given.y.0 < count) × (given.z.0 < count)
+AreBelow count arguments = (arguments.x.0 < count) × (arguments.y.0 < count) × (arguments.z.0 < count)
 
--- the count of places that a word writes
-unfoldable pub places_at : List ℕ → Result ℕ NetKind
-places_at word = do
+-- the shift of an operation that a word writes
+unfoldable pub shift_at : ArithOp → List ℕ → Result ℕ NetKind
+shift_at op word = do
   sh ← number_at word
-  _ ← demand (int_le (pos 0) sh && int_le sh (pos 15)) OutOfRange
+  _ ← demand (int_le (pos 0) sh && is_shift op (unsigned_abs sh)) OutOfRange
   Ok (unsigned_abs sh)
 
--- the count of places, which stands behind the wires of a routine that shifts; 0 where it doesn't
+-- the shift, which stands behind the wires of a routine that has one; 0 where it hasn't
 unfoldable pub shift_of : Routine → List (List ℕ) → Result ℕ NetKind
-shift_of routine words = if is_shifting routine then places_at (nth words (5 + arity_of routine)) else Ok 0
+shift_of (ArithOf op v) words = if has_shift op then shift_at op (nth words (5 + arity_of (ArithOf op v))) else Ok 0
+shift_of (ScaledOf op v) words = Ok 0
 
--- how many words a line of a routine has: a count of places is one more than the wires
+-- how many words a line of a routine has: a shift is one more than the wires
 abbrev pub words_wanted : Routine → ℕ
 words_wanted routine = 5 + arity_of routine + (if is_shifting routine then 1 else 0)
 
@@ -195,13 +203,13 @@ are_known lines wires routine words =
     && is_known lines wires (argument_at routine words 0) && is_known lines wires (argument_at routine words 1) && is_known lines wires (argument_at routine words 2)
 
 -- what a wire line gives once its form and its names are tested
-abbrev pub given_line : List Wire → Routine → List (List ℕ) → Result Content NetKind
-given_line wires routine words = do
-  given ← arguments_of wires routine words
-  kind ← agreed wires (block_of routine given 0) (nth words 2)
+abbrev pub routine_content : List Wire → Routine → List (List ℕ) → Result Content NetKind
+routine_content wires routine words = do
+  arguments ← arguments_of wires routine words
+  kind ← agreed wires (block_of routine arguments 0) (nth words 2)
   sh ← shift_of routine words
   _ ← has_room wires
-  Ok (record { kind = kind; item = OfBlock (block_of routine given sh) })
+  Ok (record { kind = kind; item = OfBlock (block_of routine arguments sh) })
 
 -- `wire NAME TYPE = ROUTINE ARG ..`
 unfoldable pub wire_line : List (List ℕ) → List Wire → List (List ℕ) → Result Content NetKind
@@ -213,7 +221,7 @@ wire_line lines wires words = do
   _ ← demand (length words == words_wanted routine) BadCount
   _ ← demand (are_known lines wires routine words) UnknownName
   _ ← demand (axis_passes (is_wire wires) (nth words 2)) LaterWire
-  given_line wires routine words
+  routine_content wires routine words
 
 -- a line that isn't built: its count of words, its name and its type are tested first
 unfoldable pub unbuilt_line : Bool → Bool → List Wire → List (List ℕ) → Result Content NetKind
@@ -241,7 +249,7 @@ delay_line wires words = unbuilt_line ((length words == 6) && bytes_eq (nth word
 
 -- an output is among those so far
 abbrev pub is_output : List WireNo → Option ℕ → Bool
-is_output outs (Some place) = list_any (λ o. o.0 == place) outs
+is_output outs (Some place) = is_among outs (record { 0 = place })
 is_output outs None = false
 
 -- `out NAME`
@@ -251,7 +259,7 @@ out_line lines wires outs words = do
   _ ← demand (is_name (nth words 1)) BadName
   _ ← demand (not (is_output outs (place_of wires (nth words 1)))) Repeated
   _ ← demand (is_known lines wires (nth words 1)) UnknownName
-  place ← reached wires (nth words 1)
+  place ← wire_above wires (nth words 1)
   Ok (record { 0 = place })
 
 -- the line of a keyword

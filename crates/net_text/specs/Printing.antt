@@ -1,4 +1,5 @@
--- The canonical text of a network: a line for each wire and each output, with one space between words.
+-- The canonical text of a network: a line for each wire and each output, with one space between words. `lines_below` is
+-- for private functions' clauses alone.
 use Rattle.std.specs.Prelude.{◌≡◌, ℕ, zero, suc, pos, List, [], ◌∷◌, ◌++◌, map, length, take, codes, Ok, if◌then◌else◌}
 use Rattle.std.specs.Fmt.{signed_decimal}
 use Rattle.text_words.specs.Printed.{spaced, word_lines}

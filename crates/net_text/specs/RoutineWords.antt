@@ -54,5 +54,5 @@ is_shifting (ScaledOf op v) = false
 
 -- the block of a routine on three wires, with a count of places
 abbrev pub block_of : Routine → Arguments → ℕ → Block
-block_of (ArithOf op v) given sh = Arith op v given.x given.y given.z sh
-block_of (ScaledOf op v) given sh = Scaled op v given.x given.y
+block_of (ArithOf op v) arguments sh = Arith op v arguments.x arguments.y arguments.z sh
+block_of (ScaledOf op v) arguments sh = Scaled op v arguments.x arguments.y

@@ -1,8 +1,9 @@
 -- The type words of a network's text.
-use Rattle.std.specs.Prelude.{ℕ, ◌+◌, ◌*◌, ◌-◌, Bool, not, ◌&&◌, ◌==◌, nat_eq, nat_le, List, [], ◌∷◌, take, drop, codes, bytes_eq, Option, Some, None, option_and_then, option_map, if◌then◌else◌}
+use Rattle.std.specs.Prelude.{ℕ, ◌+◌, ◌*◌, Bool, not, ◌&&◌, ◌==◌, nat_eq, nat_le, List, [], ◌∷◌, take, drop, codes, bytes_eq, Option, Some, None, option_and_then, option_map, if◌then◌else◌}
 use Rattle.std.specs.Char.{is_ascii_digit}
 use Rattle.std.specs.List.{starts_with, prefix_len}
 use Rattle.text_words.specs.Names.{is_name}
+use Rattle.text_words.specs.Numbers.{digit_of}
 use Rattle.fx_core.specs.declared.word_type.Ty.{Ty}
 use Rattle.fx_core.specs.declared.word_type.Ty.TheVariants.{U8, S8, U16, S16, U32, S32}
 use Rattle.net_model.specs.declared.wires.Kind.{Kind}
@@ -19,19 +20,15 @@ ty_of word =
     else (if bytes_eq word (codes "s32") then Some S32
     else None)))))
 
--- what a decimal digit stands for
-abbrev pub digit_value : ℕ → ℕ
-digit_value byte = byte - 48
-
 -- the binary point of one digit
 abbrev pub one_digit : ℕ → Option ℕ
-one_digit a = if is_ascii_digit a then Some (digit_value a) else None
+one_digit a = if is_ascii_digit a then Some (digit_of a) else None
 
 -- the binary point of two digits, at most 15
 abbrev pub two_digits : ℕ → ℕ → Option ℕ
 two_digits a b =
-    if is_ascii_digit a && is_ascii_digit b && nat_le (10 * digit_value a + digit_value b) 15
-    then Some (10 * digit_value a + digit_value b) else None
+    if is_ascii_digit a && is_ascii_digit b && nat_le (10 * digit_of a + digit_of b) 15
+    then Some (10 * digit_of a + digit_of b) else None
 
 -- the binary point that stands behind a type's name: 0 where nothing does, or one or two digits behind a mark
 unfoldable pub point_of_word : List ℕ → Option ℕ

@@ -1,11 +1,13 @@
 // The forms of lines: what each gives, or the first of its tests that fails.
-ghost use Rattle.std.specs.Prelude.{◌≡◌, ◌<◌, ◌≤◌, length, IfOk, IfSome, OnOk, bytes_eq, codes, int_le, nat_le, pos, false, true, ◌&&◌, ◌==◌};
-ghost use Rattle.std.specs.List.{list_any};
+ghost use Rattle.std.specs.Prelude.{◌≡◌, ◌<◌, ◌≤◌, length, IfOk, IfSome, OnOk, bytes_eq, codes, int_le, nat_le, pos, unsigned_abs, false, true, ◌&&◌, ◌==◌};
 ghost use Rattle.text_words.specs.Lines.{lines_of, nth, words_of};
 ghost use Rattle.text_words.specs.Names.{is_name};
+ghost use Rattle.fx_routines.specs.declared.operation.ArithOp.{ArithOp};
 ghost use Rattle.net_model.specs.Wires.{place_of};
+ghost use Rattle.net_model.specs.Built.{has_shift, is_shift};
+ghost use Rattle.net_model.specs.Validity.{is_among};
 ghost use Rattle.net_text.specs.TypeWords.{ty_of};
-ghost use Rattle.net_text.specs.Forms.{AreBelow, agreed, are_known, argument_word, arguments_of, axis_passes, const_line, defining_line, delay_line, fresh, given_line, in_line, is_known, is_narrow, is_output, is_type, is_wire, line_of, list_line, map_line, out_line, places_at, range_of, reached, shift_of, spaced_line, unbuilt_line, value_of, wire_line, words_wanted};
+ghost use Rattle.net_text.specs.Forms.{AreBelow, agreed, are_known, argument_word, arguments_of, axis_passes, const_line, defining_line, delay_line, fresh, routine_content, in_line, is_known, is_narrow, is_output, is_type, is_wire, line_of, list_line, map_line, out_line, input_of, wire_above, shift_at, shift_of, spaced_line, unbuilt_line, const_of, wire_line, words_wanted};
 
 use crate::definitions::is_defined;
 use crate::keyword::{Keyword, keyword_of};
@@ -14,9 +16,10 @@ use crate::routine_word::{
 };
 use crate::type_word::{axis_name, is_position, kind_of, ty_of};
 use fx_core::Ty;
+use mfx_arith::ArithOp;
 use net_model::{
-    Block, GREATEST_SHIFT, Item, Kind, MOST_WIRES, NetKind, Wire, WireNo, agrees, is_range,
-    kind_holds,
+    Block, GREATEST_SHIFT, Item, Kind, MOST_WIRES, NetKind, Wire, WireNo, agrees, has_shift,
+    is_range, kind_holds,
 };
 use text_words::{count_words, demand, is_literal, is_name, number, word_at};
 
@@ -77,7 +80,7 @@ fn in_line(wires: &[Wire], line: &[u8]) -> Result<Content, NetKind>
     let Some(kind) = kind_of(word_at(line, 2)) else {
         return Err(NetKind::BadType);
     };
-    let item = range_of(kind, word_at(line, 3), word_at(line, 4))?;
+    let item = input_of(kind, word_at(line, 3), word_at(line, 4))?;
     demand!(wires.len() < MOST_WIRES, NetKind::TooMany);
     Ok(Content { kind, item })
 }
@@ -94,7 +97,7 @@ fn const_line(wires: &[Wire], line: &[u8]) -> Result<Content, NetKind>
     let Some(kind) = kind_of(word_at(line, 2)) else {
         return Err(NetKind::BadType);
     };
-    let item = value_of(kind, word_at(line, 3))?;
+    let item = const_of(kind, word_at(line, 3))?;
     demand!(wires.len() < MOST_WIRES, NetKind::TooMany);
     Ok(Content { kind, item })
 }
@@ -117,20 +120,20 @@ fn wire_line(text: &[u8], wires: &[Wire], line: &[u8]) -> Result<Content, NetKin
     );
     demand!(are_known(text, wires, routine, line), NetKind::UnknownName);
     demand!(axis_is_reached(wires, word_at(line, 2)), NetKind::LaterWire);
-    given_line(wires, routine, line)
+    routine_content(wires, routine, line)
 }
 
 // What a wire line gives once its form and its names are tested.
-fn given_line(wires: &[Wire], routine: Routine, line: &[u8]) -> Result<Content, NetKind>
+fn routine_content(wires: &[Wire], routine: Routine, line: &[u8]) -> Result<Content, NetKind>
     requires { length wires.now ≤ 512 }
-    ensures value { result ≡ given_line wires.now routine (words_of line.now) }
+    ensures value { result ≡ routine_content wires.now routine (words_of line.now) }
     ensures room { OnOk result (length wires.now < 512) }
 {
-    let given = arguments_of(wires, routine, line)?;
-    let kind = agreed(wires, block_of(routine, given, 0), word_at(line, 2))?;
+    let arguments = arguments_of(wires, routine, line)?;
+    let kind = agreed(wires, block_of(routine, arguments, 0), word_at(line, 2))?;
     let sh = shift_of(routine, line)?;
     demand!(wires.len() < MOST_WIRES, NetKind::TooMany);
-    let item = Item::Block(block_of(routine, given, sh));
+    let item = Item::Block(block_of(routine, arguments, sh));
     Ok(Content { kind, item })
 }
 
@@ -206,7 +209,7 @@ pub fn out_line(
     demand!(is_name(name), NetKind::BadName);
     demand!(!is_output(outs, place_of(wires, name)), NetKind::Repeated);
     demand!(is_known(text, wires, name), NetKind::UnknownName);
-    let place = reached(wires, name)?;
+    let place = wire_above(wires, name)?;
     Ok(WireNo(place as u32))
 }
 
@@ -289,8 +292,8 @@ fn axis_is_reached(wires: &[Wire], word: &[u8]) -> bool
     !is_position(word) || is_wire(wires, axis_name(word))
 }
 
-fn reached(wires: &[Wire], name: &[u8]) -> Result<usize, NetKind>
-    ensures value { result ≡ reached wires.now name.now }
+fn wire_above(wires: &[Wire], name: &[u8]) -> Result<usize, NetKind>
+    ensures value { result ≡ wire_above wires.now name.now }
     ensures within { IfOk result (λ place. place < length wires.now) }
 {
     match place_of(wires, name) {
@@ -304,12 +307,12 @@ fn reached(wires: &[Wire], name: &[u8]) -> Result<usize, NetKind>
 fn arguments_of(wires: &[Wire], routine: Routine, line: &[u8]) -> Result<Arguments, NetKind>
     requires { length wires.now ≤ 512 }
     ensures value { result ≡ arguments_of wires.now routine (words_of line.now) }
-    ensures within { IfOk result (λ given. AreBelow (length wires.now) given) }
+    ensures within { IfOk result (λ arguments. AreBelow (length wires.now) arguments) }
 {
     let types = types_of(routine);
-    let x = reached(wires, argument_word(line, 0, types.x))?;
-    let y = reached(wires, argument_word(line, 1, types.y))?;
-    let z = reached(wires, argument_word(line, 2, types.z))?;
+    let x = wire_above(wires, argument_word(line, 0, types.x))?;
+    let y = wire_above(wires, argument_word(line, 1, types.y))?;
+    let z = wire_above(wires, argument_word(line, 2, types.z))?;
     Ok(Arguments {
         x: WireNo(x as u32),
         y: WireNo(y as u32),
@@ -321,22 +324,22 @@ fn is_output(outs: &[WireNo], place: Option<usize>) -> bool
     ensures { result ≡ is_output outs.now place }
 {
     match place {
-        Some(place) => has_number(outs, place),
+        Some(place) => is_among(outs, place),
         None => false,
     }
 }
 
-fn has_number(outs: &[WireNo], place: usize) -> bool
-    ensures { result ≡ list_any (λ o. o.0 == place) outs.now }
+fn is_among(outs: &[WireNo], place: usize) -> bool
+    ensures { result ≡ is_among outs.now (record { 0 = place }) }
 {
-    outs.iter().any(|out| out.0 as usize == place)
+    outs.iter().any(|out| place == out.0 as usize)
 }
 
 // ---- numbers
 
-#[tactic(auto, using(crate::proofs::HeldNumbers::range_of_held))]
-fn range_of(kind: Kind, low: &[u8], high: &[u8]) -> Result<Item, NetKind>
-    ensures { result ≡ range_of kind low.now high.now }
+#[tactic(auto, using(crate::proofs::HeldNumbers::input_of_held))]
+fn input_of(kind: Kind, low: &[u8], high: &[u8]) -> Result<Item, NetKind>
+    ensures { result ≡ input_of kind low.now high.now }
 {
     let Some(lo) = number(low) else {
         return Err(NetKind::BadNumber);
@@ -348,9 +351,9 @@ fn range_of(kind: Kind, low: &[u8], high: &[u8]) -> Result<Item, NetKind>
     Ok(Item::Input { lo, hi })
 }
 
-#[tactic(auto, using(crate::proofs::HeldNumbers::value_of_held))]
-fn value_of(kind: Kind, word: &[u8]) -> Result<Item, NetKind>
-    ensures { result ≡ value_of kind word.now }
+#[tactic(auto, using(crate::proofs::HeldNumbers::const_of_held))]
+fn const_of(kind: Kind, word: &[u8]) -> Result<Item, NetKind>
+    ensures { result ≡ const_of kind word.now }
 {
     let Some(value) = number(word) else {
         return Err(NetKind::BadNumber);
@@ -359,31 +362,40 @@ fn value_of(kind: Kind, word: &[u8]) -> Result<Item, NetKind>
     Ok(Item::Const { value })
 }
 
-// The count of places, which stands behind the wires of a routine that shifts; 0 where it doesn't.
+// The shift, which stands behind the wires of a routine that has one; 0 where it hasn't.
 #[tactic(auto, unfolding(crate::specs::Forms::shift_of))]
 fn shift_of(routine: Routine, line: &[u8]) -> Result<u8, NetKind>
     ensures { result ≡ shift_of routine (words_of line.now) }
 {
-    if is_shifting(routine) {
-        places_at(word_at(line, FIRST_ARGUMENT + arity_of(routine)))
-    } else {
-        Ok(0)
+    match routine {
+        Routine::ArithOf(op, _) => {
+            if has_shift(op) {
+                shift_at(op, word_at(line, FIRST_ARGUMENT + arity_of(routine)))
+            } else {
+                Ok(0)
+            }
+        }
+        Routine::ScaledOf(_, _) => Ok(0),
     }
 }
 
-#[tactic(auto, using(crate::proofs::HeldNumbers::places_at_held))]
-fn places_at(word: &[u8]) -> Result<u8, NetKind>
-    ensures { result ≡ places_at word.now }
+#[tactic(auto, using(crate::proofs::HeldNumbers::shift_at_held))]
+fn shift_at(op: ArithOp, word: &[u8]) -> Result<u8, NetKind>
+    requires { has_shift op ≡ true }
+    ensures { result ≡ shift_at op word.now }
 {
     let Some(sh) = number(word) else {
         return Err(NetKind::BadNumber);
     };
-    demand!(is_places(sh), NetKind::OutOfRange);
+    demand!(is_shift(op, sh), NetKind::OutOfRange);
     Ok(sh as u8)
 }
 
-fn is_places(sh: i64) -> bool
-    ensures { result ≡ (int_le (pos 0) sh && int_le sh (pos 15)) }
+// Whether an operation that shifts can have the number as its shift.
+#[tactic(auto, using(crate::proofs::HeldNumbers::shift_ends))]
+fn is_shift(op: ArithOp, sh: i64) -> bool
+    requires { has_shift op ≡ true }
+    ensures { result ≡ (int_le (pos 0) sh && is_shift op (unsigned_abs sh)) }
 {
     0 <= sh && sh <= i64::from(GREATEST_SHIFT)
 }

@@ -5,12 +5,13 @@ ghost use Rattle.text_words.specs.Names.{is_name};
 ghost use Rattle.net_model.specs.Wires.{NetData};
 ghost use Rattle.net_model.specs.Validity.{IsValid};
 ghost use Rattle.net_model.specs.Drafts.{data_of};
-ghost use Rattle.net_text.specs.Text.{Gives, Reads, after_definition, after_line, after_out, ended, is_head, located, network_of, no_head, walked};
+ghost use Rattle.text_words.specs.Readers.{at_line, behind_all, behind_line, read_below};
+ghost use Rattle.net_text.specs.Text.{GivesDraft, Reads, after_definition, after_out, net_reader, network_of};
 
 use crate::line_forms::{Content, defining_line, out_line};
 use net_model::{Draft, Name, NameFault, NetKind, NetRefusal, Network, Wire, WireNo, has_ends};
 use std::alloc::Global;
-use text_words::{count_words, is_literal, next_line, without_mark, word_at};
+use text_words::{behind_head, count_words, is_literal, next_line, word_at};
 
 /// A fault of a network's text: the number of its line, from 1, and what is wrong there.
 #[derive(Clone, Copy, Debug, PartialEq, Eq)]
@@ -58,56 +59,22 @@ fn build(alloc: Global, draft: Draft) -> Result<Network, NetError>
     }
 }
 
-#[tactic(auto, unfolding(crate::specs::Text::network_of, crate::specs::Text::from_head))]
+#[tactic(auto, unfolding(crate::specs::Text::network_of, text_words::specs::Readers::said_by))]
 fn read_draft(alloc: Global, text: &[u8]) -> Result<Draft, NetError>
     requires { length text.now < 2 ^ 32 }
-    ensures { Gives (network_of text.now) result }
+    ensures { GivesDraft (network_of text.now) result }
 {
-    let mut left = without_mark(text);
-    let mut above: u32 = 0;
-    while let Some((line, rest)) = next_line(left) {
-        above += 1;
-        if count_words(line) != 0 {
-            return from_first(alloc, text, above, line, rest);
-        }
-        left = rest;
+    match behind_head(b"net", text) {
+        Ok((head, lines)) => read_lines(alloc, text, head, lines),
+        Err(line) => Err(fault_at(line, NetKind::NoHead)),
     }
-    Err(fault_at(1, NetKind::NoHead))
-}
-
-// From the first line with words, which is to be the head.
-fn from_first(
-    alloc: Global,
-    text: &[u8],
-    number: u32,
-    line: &[u8],
-    rest: &[u8],
-) -> Result<Draft, NetError>
-    requires { number + length rest.now < 2 ^ 32 }
-    ensures { Gives (if is_head (words_of line.now)
-        then walked (lines_of text.now) number (record { wires = []; outs = [] }) (lines_from rest.now)
-        else no_head number) result }
-{
-    if is_head(line) {
-        read_lines(alloc, text, number, rest)
-    } else {
-        Err(fault_at(number, NetKind::NoHead))
-    }
-}
-
-fn is_head(line: &[u8]) -> bool
-    ensures { result ≡ is_head (words_of line.now) }
-{
-    is_literal(word_at(line, 0), b"net")
-        && is_literal(word_at(line, 1), b"1")
-        && count_words(line) == 2
 }
 
 // The lines below the head.
-#[tactic(auto, unfolding(crate::specs::Text::walked))]
+#[tactic(auto, unfolding(text_words::specs::Readers::read_below))]
 fn read_lines(alloc: Global, text: &[u8], head: u32, lines: &[u8]) -> Result<Draft, NetError>
     requires { head + length lines.now < 2 ^ 32 }
-    ensures { Gives (walked (lines_of text.now) head (record { wires = []; outs = [] }) (lines_from lines.now)) result }
+    ensures { GivesDraft (read_below (net_reader (lines_of text.now)) head (record { wires = []; outs = [] }) (lines_from lines.now)) result }
 {
     let mut draft = Draft {
         wires: Vec::new(alloc),
@@ -117,14 +84,14 @@ fn read_lines(alloc: Global, text: &[u8], head: u32, lines: &[u8]) -> Result<Dra
     let mut above = head;
     while let Some((line, rest)) = next_line(left) {
         above += 1;
-        draft = after_line(alloc, text, draft, above, line)?;
+        draft = behind_line(alloc, text, draft, above, line)?;
         left = rest;
     }
-    ended(draft, above)
+    behind_all(draft, above)
 }
 
-#[tactic(auto, unfolding(crate::specs::Text::after_line))]
-fn after_line(
+#[tactic(auto, unfolding(text_words::specs::Readers::behind_line, crate::specs::Text::after_line))]
+fn behind_line(
     alloc: Global,
     text: &[u8],
     draft: Draft,
@@ -132,7 +99,7 @@ fn after_line(
     line: &[u8],
 ) -> Result<Draft, NetError>
     requires { length draft.wires.items ≤ 512 }
-    ensures value { Gives (located number (after_line (lines_of text.now) (data_of draft) (words_of line.now))) result }
+    ensures value { GivesDraft (at_line (net_reader (lines_of text.now)) number (behind_line (net_reader (lines_of text.now)) (data_of draft) (words_of line.now))) result }
     ensures few { IfOk result (λ next. length next.wires.items ≤ 512) }
 {
     if count_words(line) == 0 {
@@ -147,7 +114,7 @@ fn after_line(
 #[tactic(auto, unfolding(crate::specs::Text::after_out))]
 fn after_out(text: &[u8], draft: Draft, number: u32, line: &[u8]) -> Result<Draft, NetError>
     requires { length draft.wires.items ≤ 512 }
-    ensures value { Gives (located number (after_out (lines_of text.now) (data_of draft) (words_of line.now))) result }
+    ensures value { GivesDraft (at_line (net_reader (lines_of text.now)) number (after_out (lines_of text.now) (data_of draft) (words_of line.now))) result }
     ensures few { IfOk result (λ next. length next.wires.items ≤ 512) }
 {
     match out_line(text, &draft.wires, &draft.outs, line) {
@@ -165,7 +132,7 @@ fn after_definition(
     line: &[u8],
 ) -> Result<Draft, NetError>
     requires { length draft.wires.items ≤ 512 }
-    ensures value { Gives (located number (after_definition (lines_of text.now) (data_of draft) (words_of line.now))) result }
+    ensures value { GivesDraft (at_line (net_reader (lines_of text.now)) number (after_definition (lines_of text.now) (data_of draft) (words_of line.now))) result }
     ensures few { IfOk result (λ next. length next.wires.items ≤ 512) }
 {
     match defining_line(text, &draft.wires, line) {
@@ -218,9 +185,9 @@ fn named(alloc: Global, bytes: &[u8]) -> Result<Name, NetError>
     }
 }
 
-#[tactic(auto, unfolding(crate::specs::Text::ended))]
-fn ended(draft: Draft, number: u32) -> Result<Draft, NetError>
-    ensures { Gives (located number (ended (data_of draft))) result }
+#[tactic(auto, unfolding(text_words::specs::Readers::behind_all))]
+fn behind_all(draft: Draft, number: u32) -> Result<Draft, NetError>
+    ensures { (lines : List (List ℕ)) → GivesDraft (at_line (net_reader lines) number (behind_all (net_reader lines) (data_of draft))) result }
 {
     if has_ends(&draft.wires, &draft.outs) {
         Ok(draft)

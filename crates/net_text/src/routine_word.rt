@@ -101,10 +101,10 @@ pub fn is_shifting(routine: Routine) -> bool
 }
 
 /// The block of a routine on wires that it is given, with a count of places.
-pub fn block_of(routine: Routine, given: Arguments, sh: u8) -> Block
-    ensures { result ≡ block_of routine given sh }
+pub fn block_of(routine: Routine, arguments: Arguments, sh: u8) -> Block
+    ensures { result ≡ block_of routine arguments sh }
 {
-    let Arguments { x, y, z } = given;
+    let Arguments { x, y, z } = arguments;
     match routine {
         Routine::ArithOf(op, v) => Block::Arith { op, v, x, y, z, sh },
         Routine::ScaledOf(op, v) => Block::Scaled { op, v, x, y },

@@ -1,5 +1,5 @@
 -- Fields by their columns, and the columns of inputs one by one.
-use Rattle.std.proofs.Common.{◌≡◌, ℕ, ◌+◌, ◌≤◌, ◌<◌, zero, suc, true, false, List, [], ◌∷◌, ◌++◌, length, drop, get_or, refl, sym, ap, arith, append_assoc, append-nil, length-append, drop_of_length-le, Option, Some, None, Result, Ok, Err}
+use Rattle.std.proofs.Common.{◌≡◌, ℕ, ◌+◌, ◌≤◌, ◌<◌, zero, suc, true, false, List, [], ◌∷◌, ◌++◌, length, drop, get_or, refl, arith, append-nil, length-append, drop_of_length-le, Option, Some, None, Result, Ok, Err}
 use Rattle.std.specs.Prelude.{bytes_eq}
 use Rattle.std.proofs.lemmas.List.{drop_more}
 use Rattle.csv.specs.Records.{field_at}
@@ -13,7 +13,8 @@ use Rattle.rec_csv.specs.declared.faults.HeadFault.{HeadFault}
 use Rattle.rec_csv.specs.declared.faults.HeadFault.TheVariants.{BadLine, Missing, Twice, OutOfMemory}
 use Rattle.text_words.specs.Steps.{◌>>=◌}
 use Rattle.rec_csv.specs.Fields.{trimmed}
-use Rattle.rec_csv.specs.Headers.{HeaderData, TellsHead, places_from, are_wires, prepended, columns_of, column_of}
+use Rattle.rec_csv.specs.Headers.{HeaderData, TellsHead, places_from, are_wires, columns_of, column_of}
+use Rattle.rec_csv.proofs.Prepended.{prepended, one_more}
 
 -- the bytes that are there
 abbrev pub bytes_or_none : Option (List ℕ) → List ℕ
@@ -66,11 +67,6 @@ inputs_are_wires wires = inputs_below wires 0 wires (omega arith)
 
 -- ---- one column more
 
--- what two faults or lists make
-more_ok : (before : List Column) (column : Column) (rest : Result (List Column) HeadFault) → prepended before (rest >>= (λ columns. Ok (column ∷ columns))) ≡ prepended (before ++ column ∷ []) rest
-more_ok before column (Ok columns) = ap (λ l. Ok l) (sym (append_assoc before (column ∷ []) columns))
-more_ok before column (Err fault) = refl
-
 -- the input that is read where there is none
 abbrev pub none : WireNo
 none = record { 0 = 0 }
@@ -78,7 +74,7 @@ none = record { 0 = 0 }
 -- the column of input i stands behind those before it
 pub columns_step : (fields : List (List ℕ)) (wires : List Wire) (inputs : List WireNo) (i : ℕ) (before : List Column) (column : Column) → i < length inputs → column_of fields (get_or inputs i none) (wire_at wires (get_or inputs i none).0) ≡ Ok column → prepended before (columns_of fields wires (drop i inputs)) ≡ prepended (before ++ column ∷ []) (columns_of fields wires (drop (i + 1) inputs))
 unfolding columns_of
-columns_step fields wires inputs i before column lt is = rw (drop_more inputs i none lt, is) (more_ok before column (columns_of fields wires (drop (i + 1) inputs)))
+columns_step fields wires inputs i before column lt is = rw (drop_more inputs i none lt, is) (one_more before column (columns_of fields wires (drop (i + 1) inputs)))
 
 pub one_longer : (before after : List Column) (column : Column) (i : ℕ) → after ≡ before ++ column ∷ [] → length before ≡ i → length after ≡ i + 1
 one_longer before after column i e h = rw e (omega (arith, length-append before (column ∷ []), h))

@@ -1,4 +1,5 @@
 pub mod ApartColumns
+pub mod Prepended
 pub mod ColumnFacts
 pub mod HeldValues
 pub mod PlainLines

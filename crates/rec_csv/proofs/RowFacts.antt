@@ -7,42 +7,33 @@ use Rattle.rec_csv.specs.declared.faults.RowFault.TheVariants.{BadLine, BadWidth
 use Rattle.rec_csv.specs.Fields.{field_in}
 use Rattle.text_words.specs.Steps.{◌>>=◌}
 use Rattle.rec_csv.specs.Slots.{column_at, no_column}
-use Rattle.rec_csv.specs.Rows.{Leaves, Tells, values_of, value_of, good_values}
-
--- those values behind others
-abbrev pub prepended : List ℤ → Result (List ℤ) RowFault → Result (List ℤ) RowFault
-prepended before (Ok values) = Ok (before ++ values)
-prepended before (Err fault) = Err fault
-
--- one more value
-more_ok : (before : List ℤ) (value : ℤ) (rest : Result (List ℤ) RowFault) → prepended before (rest >>= (λ values. Ok (value ∷ values))) ≡ prepended (before ++ value ∷ []) rest
-more_ok before value (Ok values) = ap (λ l. Ok l) (sym (append_assoc before (value ∷ []) values))
-more_ok before value (Err fault) = refl
+use Rattle.rec_csv.specs.Rows.{Leaves, Tells, input_values, input_value, good_values}
+use Rattle.rec_csv.proofs.Prepended.{prepended, one_more}
 
 -- the value of column i stands behind those before it
-pub values_step : (columns : List Column) (fields : List (List ℕ)) (i : ℕ) (before : List ℤ) (value : ℤ) → i < length columns → value_of (column_at columns i) (field_in fields (column_at columns i).place) ≡ Ok value → prepended before (values_of (drop i columns) fields) ≡ prepended (before ++ value ∷ []) (values_of (drop (i + 1) columns) fields)
-unfolding values_of
-values_step columns fields i before value lt is = rw (drop_more columns i no_column lt, is) (more_ok before value (values_of (drop (i + 1) columns) fields))
+pub values_step : (columns : List Column) (fields : List (List ℕ)) (i : ℕ) (before : List ℤ) (value : ℤ) → i < length columns → input_value (column_at columns i) (field_in fields (column_at columns i).place) ≡ Ok value → prepended before (input_values (drop i columns) fields) ≡ prepended (before ++ value ∷ []) (input_values (drop (i + 1) columns) fields)
+unfolding input_values
+values_step columns fields i before value lt is = rw (drop_more columns i no_column lt, is) (one_more before value (input_values (drop (i + 1) columns) fields))
 
 -- the fault of column i is that of all
-pub values_fault : (columns : List Column) (fields : List (List ℕ)) (i : ℕ) (before : List ℤ) (fault : RowFault) → i < length columns → value_of (column_at columns i) (field_in fields (column_at columns i).place) ≡ Err fault → prepended before (values_of (drop i columns) fields) ≡ Err fault
-unfolding values_of
+pub values_fault : (columns : List Column) (fields : List (List ℕ)) (i : ℕ) (before : List ℤ) (fault : RowFault) → i < length columns → input_value (column_at columns i) (field_in fields (column_at columns i).place) ≡ Err fault → prepended before (input_values (drop i columns) fields) ≡ Err fault
+unfolding input_values
 values_fault columns fields i before fault lt is = rw (drop_more columns i no_column lt, is) refl
 
 -- behind the last column stands nothing
-pub values_end : (columns : List Column) (fields : List (List ℕ)) (i : ℕ) (values : List ℤ) → length values ≡ length columns → length columns ≤ i → prepended (take i values) (values_of (drop i columns) fields) ≡ Ok values
-unfolding values_of
+pub values_end : (columns : List Column) (fields : List (List ℕ)) (i : ℕ) (values : List ℤ) → length values ≡ length columns → length columns ≤ i → prepended (take i values) (input_values (drop i columns) fields) ≡ Ok values
+unfolding input_values
 values_end columns fields i values same le =
     let past : length values ≤ i = omega (arith, same, le) in
     rw (drop_of_length-le columns le, append-nil (take i values)) (ap (λ l. Ok l) (take_all i values past))
 
 -- a good value of column i stands behind those before it
-pub good_step : (columns : List Column) (fields : List (List ℕ)) (i : ℕ) (before : List ℤ) (value : ℤ) → i < length columns → value_of (column_at columns i) (field_in fields (column_at columns i).place) ≡ Ok value → before ++ good_values (drop i columns) fields ≡ (before ++ value ∷ []) ++ good_values (drop (i + 1) columns) fields
+pub good_step : (columns : List Column) (fields : List (List ℕ)) (i : ℕ) (before : List ℤ) (value : ℤ) → i < length columns → input_value (column_at columns i) (field_in fields (column_at columns i).place) ≡ Ok value → before ++ good_values (drop i columns) fields ≡ (before ++ value ∷ []) ++ good_values (drop (i + 1) columns) fields
 unfolding good_values
 good_step columns fields i before value lt is = rw (drop_more columns i no_column lt, is) (sym (append_assoc before (value ∷ []) (good_values (drop (i + 1) columns) fields)))
 
 -- at a fault of column i those before it are all
-pub good_fault : (columns : List Column) (fields : List (List ℕ)) (i : ℕ) (before : List ℤ) (fault : RowFault) → i < length columns → value_of (column_at columns i) (field_in fields (column_at columns i).place) ≡ Err fault → before ++ good_values (drop i columns) fields ≡ before
+pub good_fault : (columns : List Column) (fields : List (List ℕ)) (i : ℕ) (before : List ℤ) (fault : RowFault) → i < length columns → input_value (column_at columns i) (field_in fields (column_at columns i).place) ≡ Err fault → before ++ good_values (drop i columns) fields ≡ before
 unfolding good_values
 good_fault columns fields i before fault lt is = rw (drop_more columns i no_column lt, is) (append-nil before)
 
@@ -71,14 +62,14 @@ leaves before values fault i is le =
 -- what the values up to place i keep
 abbrev pub Kept : List Column → List (List ℕ) → List ℤ → ℕ → Type 0
 Kept columns fields values i = (length values ≡ length columns)
-    × (values_of columns fields ≡ prepended (take i values) (values_of (drop i columns) fields))
+    × (input_values columns fields ≡ prepended (take i values) (input_values (drop i columns) fields))
     × (good_values columns fields ≡ take i values ++ good_values (drop i columns) fields)
 
 -- one more value keeps it
-pub kept : (columns : List Column) (fields : List (List ℕ)) (values : List ℤ) (i : ℕ) (z : ℤ) → i < length columns → value_of (column_at columns i) (field_in fields (column_at columns i).place) ≡ Ok z → Kept columns fields values i → Kept columns fields (slice_set values i z) (i + 1)
+pub kept : (columns : List Column) (fields : List (List ℕ)) (values : List ℤ) (i : ℕ) (z : ℤ) → i < length columns → input_value (column_at columns i) (field_in fields (column_at columns i).place) ≡ Ok z → Kept columns fields values i → Kept columns fields (slice_set values i z) (i + 1)
 kept columns fields values i z lt is inv =
     let e = take_more_set values i z (omega (arith, lt, inv.0)) in (
       length-set values i z ∙ inv.0,
-      inv.1 ∙ values_step columns fields i (take i values) z lt is ∙ ap (λ l. prepended l (values_of (drop (i + 1) columns) fields)) (sym e),
+      inv.1 ∙ values_step columns fields i (take i values) z lt is ∙ ap (λ l. prepended l (input_values (drop (i + 1) columns) fields)) (sym e),
       inv.2 ∙ good_step columns fields i (take i values) z lt is ∙ ap (λ l. l ++ good_values (drop (i + 1) columns) fields) (sym e),
     )

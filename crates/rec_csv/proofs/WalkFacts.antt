@@ -9,7 +9,7 @@ use Rattle.rec_csv.specs.declared.faults.RowFault.{RowFault}
 use Rattle.rec_csv.specs.declared.faults.RowFault.TheVariants.{BadWidth}
 use Rattle.rec_csv.specs.declared.plain_rows.Verdict.{Verdict}
 use Rattle.rec_csv.specs.Fields.{field_in, is_comma, is_plain, is_plain_byte}
-use Rattle.rec_csv.specs.Rows.{Leaves, Tells, good_values, row_of, value_of, values_before, values_of}
+use Rattle.rec_csv.specs.Rows.{Leaves, Tells, good_values, row_of, input_value, values_before, input_values}
 use Rattle.rec_csv.specs.Slots.{IsTable, column_at, header_with}
 use Rattle.rec_csv.specs.Verdicts.{values_after, verdict_after}
 use Rattle.rec_csv.proofs.PlainLines.{fields_of_plain}
@@ -17,7 +17,7 @@ use Rattle.rec_csv.proofs.RowFacts.{leaves, tells}
 
 -- what the field of input k gives
 abbrev read_at : List Column → List (List ℕ) → ℕ → Result ℤ RowFault
-read_at columns fields k = value_of (column_at columns k) (field_in fields (column_at columns k).place)
+read_at columns fields k = input_value (column_at columns k) (field_in fields (column_at columns k).place)
 
 -- the inputs up to the first that is known to be faulty have their values, as far as their columns lie before a place
 pub record Known (columns : List Column) (fields : List (List ℕ)) (values : List ℤ) (verdict : Verdict) (place : ℕ) : Type 0 where
@@ -98,16 +98,16 @@ known_read columns slots fields values verdict place i (Err fault) false table s
     rw test (known_fault columns slots fields values verdict place i fault table some lt (leb-false _ _ test) is known)
 
 -- the field of input i
-pub known_more : (columns : List Column) (slots : List (Option ℕ)) (fields : List (List ℕ)) (field : List ℕ) (values : List ℤ) (verdict : Verdict) (place i : ℕ) → IsTable columns slots → get_or slots place None ≡ Some i → field ≡ field_in fields place → Known columns fields values verdict place → Known columns fields (values_after verdict i (value_of (column_at columns i) field) values) (verdict_after verdict i (value_of (column_at columns i) field)) (place + 1)
+pub known_more : (columns : List Column) (slots : List (Option ℕ)) (fields : List (List ℕ)) (field : List ℕ) (values : List ℤ) (verdict : Verdict) (place i : ℕ) → IsTable columns slots → get_or slots place None ≡ Some i → field ≡ field_in fields place → Known columns fields values verdict place → Known columns fields (values_after verdict i (input_value (column_at columns i) field) values) (verdict_after verdict i (input_value (column_at columns i) field)) (place + 1)
 known_more columns slots fields field values verdict place i table some is known =
     let there = table.no_other place i some in
-    known_read columns slots fields values verdict place i (value_of (column_at columns i) field) (nat_le verdict.good_before i) table some there.0 (ap (λ n. value_of (column_at columns i) (field_in fields n)) there.1 ∙ ap (value_of (column_at columns i)) (sym is)) refl known
+    known_read columns slots fields values verdict place i (input_value (column_at columns i) field) (nat_le verdict.good_before i) table some there.0 (ap (λ n. input_value (column_at columns i) (field_in fields n)) there.1 ∙ ap (input_value (column_at columns i)) (sym is)) refl known
 
 -- ---- the whole row
 
 -- where all inputs are good, the values are the row's
-all_good : (columns : List Column) (fields : List (List ℕ)) (values : List ℤ) → length values ≡ length columns → ((k : ℕ) → k < length columns → read_at columns fields k ≡ Ok (get_or values k (pos 0))) → values_of columns fields ≡ Ok values
-unfolding values_of
+all_good : (columns : List Column) (fields : List (List ℕ)) (values : List ℤ) → length values ≡ length columns → ((k : ℕ) → k < length columns → read_at columns fields k ≡ Ok (get_or values k (pos 0))) → input_values columns fields ≡ Ok values
+unfolding input_values
 all_good [] fields [] same good = refl
 all_good [] fields (value ∷ values) same good = absurd (omega (arith, same))
 all_good (column ∷ columns) fields [] same good = absurd (omega (arith, same))
@@ -115,8 +115,8 @@ all_good (column ∷ columns) fields (value ∷ values) same good =
     rw (good 0 (omega arith), all_good columns fields values (omega (arith, same)) (λ k lt. good (suc k) (omega (arith, lt)))) refl
 
 -- the fault of the first that isn't good is the row's
-first_fault : (columns : List Column) (fields : List (List ℕ)) (values : List ℤ) (i : ℕ) (fault : RowFault) → length values ≡ length columns → i < length columns → ((k : ℕ) → k < i → read_at columns fields k ≡ Ok (get_or values k (pos 0))) → read_at columns fields i ≡ Err fault → (values_of columns fields ≡ Err fault) × (good_values columns fields ≡ take i values)
-unfolding values_of good_values
+first_fault : (columns : List Column) (fields : List (List ℕ)) (values : List ℤ) (i : ℕ) (fault : RowFault) → length values ≡ length columns → i < length columns → ((k : ℕ) → k < i → read_at columns fields k ≡ Ok (get_or values k (pos 0))) → read_at columns fields i ≡ Err fault → (input_values columns fields ≡ Err fault) × (good_values columns fields ≡ take i values)
+unfolding input_values good_values
 first_fault [] fields values i fault same lt good bad = absurd (omega (arith, lt))
 first_fault (column ∷ columns) fields [] i fault same lt good bad = absurd (omega (arith, same))
 first_fault (column ∷ columns) fields (value ∷ values) zero fault same lt good bad = (rw bad refl, rw bad refl)
@@ -125,7 +125,7 @@ first_fault (column ∷ columns) fields (value ∷ values) (suc i) fault same lt
     (rw (good 0 (omega arith), rest.0) refl, rw (good 0 (omega arith), rest.1) refl)
 
 -- a plain line's row
-row_is : (width : ℕ) (columns : List Column) (line : List ℕ) → is_plain line ≡ true → width ≤ length (pieces is_comma line) → row_of (record { width = width; columns = columns }) line ≡ values_of columns (pieces is_comma line)
+row_is : (width : ℕ) (columns : List Column) (line : List ℕ) → is_plain line ≡ true → width ≤ length (pieces is_comma line) → row_of (record { width = width; columns = columns }) line ≡ input_values columns (pieces is_comma line)
 unfolding row_of
 row_is width columns line plain wide =
     rw (fields_of_plain line plain, le-leb width (length (pieces is_comma line)) wide) refl

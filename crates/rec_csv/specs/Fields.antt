@@ -1,6 +1,8 @@
--- The fields of a recording's line.
+-- The fields of a recording's line. `IsOfSource`, and from `is_comma` to `goes_on` plain lines and their bytes, are for
+-- private functions' clauses alone.
 use Rattle.std.specs.Prelude.{ℕ, Bool, false, not, ⊤, List, [], ◌∷◌, Option, Some, None, ◌==◌, ◌&&◌, ◌||◌, nat_le, length, get_or, take, drop, reverse, ◌-◌, if◌then◌else◌}
 use Rattle.std.specs.List.{list_all, prefix_len}
+use Rattle.text_words.specs.Lines.{is_space_or_tab}
 use Rattle.csv.specs.Machine.{Read, next_record}
 use Rattle.csv.specs.Reading.{default_config, strip_bom}
 use Rattle.csv.specs.declared.error.ErrorKind.{ErrorKind}
@@ -48,17 +50,13 @@ goes_on byte = not (is_comma byte) && is_plain_byte byte
 abbrev pub field_in : List (List ℕ) → ℕ → List ℕ
 field_in fields column = get_or fields column []
 
--- a space or a tab
-abbrev pub is_space : ℕ → Bool
-is_space byte = (byte == 32) || (byte == 9)
-
 -- a field without the spaces and tabs at its front
 abbrev pub trimmed_front : List ℕ → List ℕ
-trimmed_front field = drop (prefix_len is_space field) field
+trimmed_front field = drop (prefix_len is_space_or_tab field) field
 
 -- a field without those at its end
 abbrev pub trimmed_back : List ℕ → List ℕ
-trimmed_back field = take (length field - prefix_len is_space (reverse field)) field
+trimmed_back field = take (length field - prefix_len is_space_or_tab (reverse field)) field
 
 -- a field without the spaces and tabs round it
 abbrev pub trimmed : List ℕ → List ℕ
@@ -66,7 +64,7 @@ trimmed field = trimmed_back (trimmed_front field)
 
 -- a space, a tab or a carriage return
 abbrev pub is_blank_byte : ℕ → Bool
-is_blank_byte byte = is_space byte || (byte == 13)
+is_blank_byte byte = is_space_or_tab byte || (byte == 13)
 
 -- a line with no other byte
 abbrev pub is_blank : List ℕ → Bool

@@ -1,5 +1,5 @@
--- The header of a recording: where each input of a network stands.
-use Rattle.std.specs.Prelude.{ℕ, ◌≡◌, ⊤, ◌+◌, List, [], ◌∷◌, ◌++◌, ◌<◌, length, bytes_eq, ok_or, Result, Ok, Err, if◌then◌else◌}
+-- The header of a recording: where each input of a network stands. `are_wires` is for a private function's clause.
+use Rattle.std.specs.Prelude.{ℕ, ◌≡◌, ⊤, ◌+◌, List, [], ◌∷◌, ◌<◌, length, bytes_eq, ok_or, Result, Ok, Err, if◌then◌else◌}
 use Rattle.net_model.specs.declared.wires.WireNo.{WireNo}
 use Rattle.net_model.specs.declared.wires.Wire.{Wire}
 use Rattle.net_model.specs.Wires.{wire_at, inputs_of}
@@ -39,11 +39,6 @@ columns_of fields wires (number ∷ numbers) = do
   column ← column_of fields number (wire_at wires number.0)
   columns ← columns_of fields wires numbers
   Ok (column ∷ columns)
-
--- those columns behind others
-abbrev pub prepended : List Column → Result (List Column) HeadFault → Result (List Column) HeadFault
-prepended before (Ok columns) = Ok (before ++ columns)
-prepended before (Err fault) = Err fault
 
 -- each of the numbers is that of a wire
 unfoldable pub are_wires : List Wire → List WireNo → Type 0

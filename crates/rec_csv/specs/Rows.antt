@@ -10,18 +10,18 @@ use Rattle.rec_csv.specs.Fields.{fields_of_line, field_in, trimmed}
 use Rattle.rec_csv.specs.Headers.{HeaderData}
 
 -- the value of an input whose field is this one
-unfoldable pub value_of : Column → List ℕ → Result ℤ RowFault
-value_of column field = do
+unfoldable pub input_value : Column → List ℕ → Result ℤ RowFault
+input_value column field = do
   value ← ok_or (number_of (trimmed field)) (BadNumber column.wire)
   _ ← demand (kind_holds column.kind value) (OutOfType column.wire)
   Ok value
 
 -- the values of inputs, in order
-unfoldable pub values_of : List Column → List (List ℕ) → Result (List ℤ) RowFault
-values_of [] fields = Ok []
-values_of (column ∷ columns) fields = do
-  value ← value_of column (field_in fields column.place)
-  values ← values_of columns fields
+unfoldable pub input_values : List Column → List (List ℕ) → Result (List ℤ) RowFault
+input_values [] fields = Ok []
+input_values (column ∷ columns) fields = do
+  value ← input_value column (field_in fields column.place)
+  values ← input_values columns fields
   Ok (value ∷ values)
 
 -- the values that a row gives
@@ -29,7 +29,7 @@ unfoldable pub row_of : HeaderData → List ℕ → Result (List ℤ) RowFault
 row_of header line = do
   fields ← ok_or (fields_of_line line) BadLine
   _ ← demand (nat_le header.width (length fields)) BadWidth
-  values_of header.columns fields
+  input_values header.columns fields
 
 -- a value and those after it, up to a fault
 abbrev pub before_fault : Result ℤ RowFault → List ℤ → List ℤ
@@ -39,7 +39,7 @@ before_fault (Err fault) values = []
 -- the values of the inputs before the first that is faulty
 unfoldable pub good_values : List Column → List (List ℕ) → List ℤ
 good_values [] fields = []
-good_values (column ∷ columns) fields = before_fault (value_of column (field_in fields column.place)) (good_values columns fields)
+good_values (column ∷ columns) fields = before_fault (input_value column (field_in fields column.place)) (good_values columns fields)
 
 -- the fields of a line, none where it has no fields
 abbrev pub fields_or_none : Option (List (List ℕ)) → List (List ℕ)

@@ -1,4 +1,5 @@
--- Which input stands in each column of a header: a table by the column's number.
+-- Which input stands in each column of a header: a table by the column's number. These are for private functions'
+-- clauses and for what a header keeps.
 use Rattle.std.specs.Prelude.{ℕ, ◌≡◌, ◌≢◌, ◌<◌, List, length, get_or, Option, Some, None}
 use Rattle.fx_core.specs.declared.word_type.Ty.TheVariants.{U8}
 use Rattle.net_model.specs.declared.wires.Kind.TheVariants.{Num}

@@ -1,4 +1,5 @@
--- What is known of a row's values after some of its fields, in whatever order the inputs stand.
+-- What is known of a row's values after some of its fields, in whatever order the inputs stand. These are for private
+-- functions' clauses alone.
 use Rattle.std.specs.Prelude.{ℕ, List, nat_le, slice_set, ℤ, Result, Ok, Err, if◌then◌else◌}
 use Rattle.rec_csv.specs.declared.faults.RowFault.{RowFault}
 use Rattle.rec_csv.specs.declared.plain_rows.Verdict.{Verdict}

@@ -2,7 +2,7 @@
 ghost use Rattle.std.specs.Prelude.{◌≡◌, ◌<◌, ◌∷◌, ◌+◌, ◌^◌, [], drop, length, IfErr, IfOk, IfSome, Ok, MatchOption};
 ghost use Rattle.csv.specs.Records.{fields_of};
 ghost use Rattle.net_model.specs.Wires.{wire_at};
-ghost use Rattle.rec_csv.specs.Headers.{TellsHead, are_wires, column_of, columns_of, only_place, places_from, prepended};
+ghost use Rattle.rec_csv.specs.Headers.{TellsHead, are_wires, column_of, columns_of, only_place, places_from};
 
 use crate::faults::HeadFault;
 use crate::line_fields::{field_in, trimmed};

@@ -5,10 +5,12 @@ ghost use Rattle.csv.specs.Machine.{next_record};
 ghost use Rattle.csv.specs.Reading.{default_config, strip_bom};
 ghost use Rattle.csv.specs.Records.{fields_of};
 ghost use Rattle.csv.specs.declared.parser.State.TheVariants as st;
-ghost use Rattle.rec_csv.specs.Fields.{IsOfSource, field_in, fields_of_line, is_blank, is_blank_byte, is_space, trimmed, trimmed_back, trimmed_front};
+ghost use Rattle.text_words.specs.Lines.{is_space_or_tab};
+ghost use Rattle.rec_csv.specs.Fields.{IsOfSource, field_in, fields_of_line, is_blank, is_blank_byte, trimmed, trimmed_back, trimmed_front};
 
 use csv::{ByteRecord, Error, Reader, ReaderBuilder};
 use std::alloc::Global;
+use text_words::is_space_or_tab;
 
 /// How many bytes a line may have.
 pub const MOST_BYTES: usize = 65_536;
@@ -87,33 +89,27 @@ fn trimmed_back(field: &[u8]) -> &[u8]
 }
 
 fn spaces_before(field: &[u8]) -> usize
-    ensures value { result ≡ prefix_len is_space field.now }
+    ensures value { result ≡ prefix_len is_space_or_tab field.now }
     ensures within { result ≤ length field.now }
 {
-    field.iter().take_while(|byte| is_space(**byte)).count()
+    field.iter().take_while(|byte| is_space_or_tab(**byte)).count()
 }
 
 fn spaces_behind(field: &[u8]) -> usize
-    ensures value { result ≡ prefix_len is_space (reverse field.now) }
+    ensures value { result ≡ prefix_len is_space_or_tab (reverse field.now) }
     ensures within { result ≤ length field.now }
 {
     field
         .iter()
         .rev()
-        .take_while(|byte| is_space(**byte))
+        .take_while(|byte| is_space_or_tab(**byte))
         .count()
-}
-
-fn is_space(byte: u8) -> bool
-    ensures { result ≡ is_space byte }
-{
-    byte == b' ' || byte == b'\t'
 }
 
 fn is_blank_byte(byte: u8) -> bool
     ensures { result ≡ is_blank_byte byte }
 {
-    is_space(byte) || byte == b'\r'
+    is_space_or_tab(byte) || byte == b'\r'
 }
 
 // A read of a text in memory fails for want of memory alone: the reader is flexible, and reads bytes.

@@ -3,14 +3,14 @@ ghost use Rattle.std.specs.Prelude.{◌≡◌, ◌≤◌, ◌<◌, ◌∷◌, []
 ghost use Rattle.std.specs.List.{list_all, prefix_len};
 ghost use Rattle.text_words.specs.Lines.{pieces};
 ghost use Rattle.rec_csv.specs.Fields.{begins_plain, goes_on, is_comma, is_plain, is_plain_byte};
-ghost use Rattle.rec_csv.specs.Rows.{Leaves, Tells, row_of, value_of, values_before};
+ghost use Rattle.rec_csv.specs.Rows.{Leaves, Tells, row_of, input_value, values_before};
 ghost use Rattle.rec_csv.specs.Slots.{IsTable, header_with};
 ghost use Rattle.rec_csv.specs.Verdicts.{values_after, verdict_after};
 
 use crate::columns::Column;
 use crate::faults::RowFault;
 use crate::line_fields::MOST_BYTES;
-use crate::rows::value_of;
+use crate::rows::input_value;
 
 /// What is known of a row's values after some of its fields.
 #[derive(Clone, Copy)]
@@ -101,13 +101,13 @@ fn with_field(
     verdict: Verdict,
 ) -> Verdict
     requires { input < length values.old }
-    ensures values { values.new ≡ values_after verdict input (value_of column field.now) values.old }
-    ensures verdict { result ≡ verdict_after verdict input (value_of column field.now) }
+    ensures values { values.new ≡ values_after verdict input (input_value column field.now) values.old }
+    ensures verdict { result ≡ verdict_after verdict input (input_value column field.now) }
 {
     if verdict.good_before <= input {
         return verdict;
     }
-    match value_of(column, field) {
+    match input_value(column, field) {
         Ok(value) => {
             values[input] = value;
             verdict

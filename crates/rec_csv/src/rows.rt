@@ -2,7 +2,7 @@
 ghost use Rattle.std.specs.Prelude.{◌≡◌, length, IfErr, OnOk, Ok};
 ghost use Rattle.csv.specs.Records.{fields_of};
 ghost use Rattle.net_model.specs.Validity.{kind_holds};
-ghost use Rattle.rec_csv.specs.Rows.{Leaves, Tells, good_values, value_of, values_of};
+ghost use Rattle.rec_csv.specs.Rows.{Leaves, Tells, good_values, input_value, input_values};
 
 use crate::columns::Column;
 use crate::faults::RowFault;
@@ -15,13 +15,13 @@ use text_words::number;
 #[tactic(auto, using(crate::proofs::RowFacts::values_step, crate::proofs::RowFacts::values_fault, crate::proofs::RowFacts::values_end, crate::proofs::RowFacts::good_step, crate::proofs::RowFacts::good_fault, crate::proofs::RowFacts::tells, crate::proofs::RowFacts::leaves))]
 pub fn fill(columns: &[Column], row: &ByteRecord, values: &mut [i64]) -> Result<(), RowFault>
     requires { length values.old ≡ length columns.now }
-    ensures values { OnOk result (values_of columns.now (fields_of row.now) ≡ Ok values.new) }
-    ensures fault { IfErr result (Tells (values_of columns.now (fields_of row.now))) }
+    ensures values { OnOk result (input_values columns.now (fields_of row.now) ≡ Ok values.new) }
+    ensures fault { IfErr result (Tells (input_values columns.now (fields_of row.now))) }
     ensures before { IfErr result (Leaves (good_values columns.now (fields_of row.now)) values.new) }
 {
     'columns: for i in 0..columns.len() {
         let column = columns[i];
-        match value_of(column, field_in(row, column.place)) {
+        match input_value(column, field_in(row, column.place)) {
             Ok(value) => values[i] = value,
             Err(fault) => return Err(fault),
         }
@@ -30,10 +30,10 @@ pub fn fill(columns: &[Column], row: &ByteRecord, values: &mut [i64]) -> Result<
 }
 
 /// The value of an input whose field is this one.
-#[tactic(auto, using(crate::proofs::HeldValues::value_of_held))]
+#[tactic(auto, using(crate::proofs::HeldValues::input_value_held))]
 #[inline(always)]
-pub fn value_of(column: Column, field: &[u8]) -> Result<i64, RowFault>
-    ensures { result ≡ value_of column field.now }
+pub fn input_value(column: Column, field: &[u8]) -> Result<i64, RowFault>
+    ensures { result ≡ input_value column field.now }
 {
     let Some(value) = number(trimmed(field)) else {
         return Err(RowFault::BadNumber(column.wire));

@@ -4,7 +4,7 @@ use Rattle.std.specs.List.{prefix_len, slice_split, onto_first}
 use Rattle.std.specs.Str.Lines.{strip_carriage_return}
 use Rattle.std.proofs.lemmas.List.Splits.{slice_split-cons_yes, length-slice_split}
 use Rattle.std.proofs.lemmas.List.Sums.{prefix_len_stops, take_while-cons}
-use Rattle.text_words.specs.Lines.{is_line_feed, without_empty_last, lines_from, is_blank, is_empty, begins_comment, words_of}
+use Rattle.text_words.specs.Lines.{is_line_feed, without_empty_last, lines_from, is_space_or_tab, is_empty, begins_comment, words_of}
 
 -- ---- pieces
 
@@ -92,45 +92,45 @@ words_of_none (byte ∷ bytes) none = absurd (omega arith)
 pub words_of_comment : (line : List ℕ) → 0 < length line → get_or line 0 0 ≡ 35 → words_of line ≡ []
 unfolding words_of
 words_of_comment [] some hash = absurd (omega arith)
-words_of_comment (byte ∷ bytes) some hash = ap (λ b. words_in (slice_split is_blank (b ∷ bytes))) hash ∙ words_in_onto_comment (slice_split is_blank bytes)
+words_of_comment (byte ∷ bytes) some hash = ap (λ b. words_in (slice_split is_space_or_tab (b ∷ bytes))) hash ∙ words_in_onto_comment (slice_split is_space_or_tab bytes)
 
 -- blanks at the front are no part of any word
-words_of_blanks_step : (byte : ℕ) (bytes : List ℕ) (n : ℕ) (here : Bool) → is_blank byte ≡ here → words_of bytes ≡ words_of (drop n bytes) → words_of (byte ∷ bytes) ≡ words_of (drop (cond here (1 + n) 0) (byte ∷ bytes))
+words_of_blanks_step : (byte : ℕ) (bytes : List ℕ) (n : ℕ) (here : Bool) → is_space_or_tab byte ≡ here → words_of bytes ≡ words_of (drop n bytes) → words_of (byte ∷ bytes) ≡ words_of (drop (cond here (1 + n) 0) (byte ∷ bytes))
 unfolding words_of
 words_of_blanks_step byte bytes n true is same =
-    ap words_in (slice_split-cons_yes is_blank byte bytes is) ∙ same ∙ ap (λ k. words_of (drop k (byte ∷ bytes))) (sym (one-add n))
+    ap words_in (slice_split-cons_yes is_space_or_tab byte bytes is) ∙ same ∙ ap (λ k. words_of (drop k (byte ∷ bytes))) (sym (one-add n))
 words_of_blanks_step byte bytes n false is same = refl
 
-pub words_of_blanks : (line : List ℕ) → words_of line ≡ words_of (drop (prefix_len is_blank line) line)
+pub words_of_blanks : (line : List ℕ) → words_of line ≡ words_of (drop (prefix_len is_space_or_tab line) line)
 words_of_blanks [] = refl
-words_of_blanks (byte ∷ bytes) = words_of_blanks_step byte bytes _ (is_blank byte) refl (words_of_blanks bytes)
+words_of_blanks (byte ∷ bytes) = words_of_blanks_step byte bytes _ (is_space_or_tab byte) refl (words_of_blanks bytes)
 
 -- the first word, of a byte that is neither a blank nor `#` and n more, and the others
-words_in_front : (byte : ℕ) (bytes : List ℕ) (n : ℕ) (others : List (List ℕ)) → eqb byte 35 ≡ false → slice_split is_blank (drop n bytes) ≡ [] ∷ others → words_in (take (suc n) (byte ∷ bytes) ∷ others) ≡ take (suc n) (byte ∷ bytes) ∷ words_of (drop (suc n) (byte ∷ bytes))
+words_in_front : (byte : ℕ) (bytes : List ℕ) (n : ℕ) (others : List (List ℕ)) → eqb byte 35 ≡ false → slice_split is_space_or_tab (drop n bytes) ≡ [] ∷ others → words_in (take (suc n) (byte ∷ bytes) ∷ others) ≡ take (suc n) (byte ∷ bytes) ∷ words_of (drop (suc n) (byte ∷ bytes))
 unfolding words_of
 words_in_front byte bytes n others word is = words_in-cons byte (take n bytes) others word ∙ ap (λ l. (byte ∷ take n bytes) ∷ l) (sym (ap words_in is))
 
 -- a first word ends at the first blank, and the others are those of what is left
-words_of_cons : (byte : ℕ) (bytes : List ℕ) (n : ℕ) → is_blank byte ≡ false → eqb byte 35 ≡ false → n ≡ prefix_len (λ b. not (is_blank b)) (byte ∷ bytes) → words_of (byte ∷ bytes) ≡ take n (byte ∷ bytes) ∷ words_of (drop n (byte ∷ bytes))
+words_of_cons : (byte : ℕ) (bytes : List ℕ) (n : ℕ) → is_space_or_tab byte ≡ false → eqb byte 35 ≡ false → n ≡ prefix_len (λ b. not (is_space_or_tab b)) (byte ∷ bytes) → words_of (byte ∷ bytes) ≡ take n (byte ∷ bytes) ∷ words_of (drop n (byte ∷ bytes))
 unfolding words_of
 words_of_cons byte bytes n here word n_is =
-    let m = prefix_len (λ b. not (is_blank b)) bytes in
+    let m = prefix_len (λ b. not (is_space_or_tab b)) bytes in
     let n_suc = n_is ∙ ap (λ b. cond (not b) (1 + m) 0) here ∙ one-add m in
-    let P : ℕ → Type 0 = λ k. IsFront is_blank (byte ∷ bytes) k (slice_split is_blank (byte ∷ bytes)) in
-    let front = subst P (sym n_is ∙ n_suc) (front_of_pieces is_blank (byte ∷ bytes)) in
+    let P : ℕ → Type 0 = λ k. IsFront is_space_or_tab (byte ∷ bytes) k (slice_split is_space_or_tab (byte ∷ bytes)) in
+    let front = subst P (sym n_is ∙ n_suc) (front_of_pieces is_space_or_tab (byte ∷ bytes)) in
     let Q : ℕ → Type 0 = λ k. words_of (byte ∷ bytes) ≡ take k (byte ∷ bytes) ∷ words_of (drop k (byte ∷ bytes)) in
     subst Q (sym n_suc) (ap words_in front.1 ∙ words_in_front byte bytes m front.0 word front.2)
 
-pub words_of_some : (line : List ℕ) (n : ℕ) → 0 < length line → is_blank (get_or line 0 0) ≡ false → get_or line 0 0 ≢ 35 → n ≡ prefix_len (λ b. not (is_blank b)) line → words_of line ≡ take n line ∷ words_of (drop n line)
+pub words_of_some : (line : List ℕ) (n : ℕ) → 0 < length line → is_space_or_tab (get_or line 0 0) ≡ false → get_or line 0 0 ≢ 35 → n ≡ prefix_len (λ b. not (is_space_or_tab b)) line → words_of line ≡ take n line ∷ words_of (drop n line)
 words_of_some [] n some here word n_is = absurd (omega arith)
 words_of_some (byte ∷ bytes) n some here word n_is = words_of_cons byte bytes n here (ne_eqb byte 35 word) n_is
 
 -- what follows the blanks at the front doesn't begin with one
-pub first_after_blanks : (line : List ℕ) → 0 < length (drop (prefix_len is_blank line) line) → is_blank (get_or (drop (prefix_len is_blank line) line) 0 0) ≡ false
+pub first_after_blanks : (line : List ℕ) → 0 < length (drop (prefix_len is_space_or_tab line) line) → is_space_or_tab (get_or (drop (prefix_len is_space_or_tab line) line) 0 0) ≡ false
 first_after_blanks line some =
-    let n = prefix_len is_blank line in
+    let n = prefix_len is_space_or_tab line in
     let within : n < length line = omega (arith, length-drop n line) in
-    ap is_blank (get_or-drop n line 0 0 ∙ ap (λ k. get_or line k 0) (add-zero n)) ∙ prefix_len_stops is_blank line 0 within
+    ap is_space_or_tab (get_or-drop n line 0 0 ∙ ap (λ k. get_or line k 0) (add-zero n)) ∙ prefix_len_stops is_space_or_tab line 0 within
 
 -- ---- for the cutters' proofs
 

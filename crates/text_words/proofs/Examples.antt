@@ -3,7 +3,8 @@ use Rattle.std.proofs.Common.{◌≡◌, true, false, [], ◌∷◌, ◌++◌, r
 use Rattle.text_words.specs.Lines.{lines_from, lines_of, words_of}
 use Rattle.text_words.specs.Names.{is_name}
 use Rattle.text_words.specs.Numbers.{number_of, held}
-use Rattle.text_words.specs.Printed.{is_word, word_lines}
+use Rattle.text_words.specs.Printed.{word_lines}
+use Rattle.text_words.proofs.PrintedWords.{is_word}
 
 -- ---- lines
 

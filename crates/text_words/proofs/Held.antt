@@ -1,8 +1,10 @@
 -- What is known of a number from the nearest one of 64 signed bits.
-use Rattle.std.proofs.Common.{◌≡◌, true, ℕ, ◌<◌, ◌≤◌, min, leb, ap, ◌-◌, ◌^◌, ℤ, pos, negsuc, ◌<ℤ◌, ◌≤ℤ◌, int_le, FitsSigned, refl, w64, arith}
+use Rattle.std.proofs.Common.{◌≡◌, Bool, true, false, ℕ, ◌<◌, ◌≤◌, min, leb, ap, ◌-◌, ◌^◌, ℤ, pos, negsuc, ◌<ℤ◌, ◌≤ℤ◌, int_le, FitsSigned, Option, Some, None, option_map, Ok, refl, w64, arith}
+use Rattle.std.specs.Prelude.{ok_or}
 use Rattle.std.proofs.lemmas.Bool.Decides.{nat_tests}
 use Rattle.std.proofs.lemmas.Int.{ints}
 use Rattle.text_words.specs.Numbers.{held}
+use Rattle.text_words.specs.Steps.{◌>>=◌, demand}
 
 -- to cut a number off at m changes no test against a bound up to m
 leb-min_right : (l n m : ℕ) → l ≤ m → leb l (min n m) ≡ leb l n
@@ -57,6 +59,16 @@ below_trans most high z below is = grind (arith, ints)
 pub held_between : (low high z : ℤ) → negsuc (2 ^ 63 - 1) <ℤ low → high <ℤ pos (2 ^ 63 - 1) → int_le low (held z) ≡ true → int_le (held z) high ≡ true → held z ≡ z
 held_between low high z above below at_least at_most =
     held_inside z (above_trans _ low (held z) above at_least) (below_trans _ high (held z) below at_most)
+
+-- what a test lets through, where it answers the same of both numbers, and they are the same if it holds
+tested_of_both : {A E : Type 0} (test : ℤ → Bool) (made : ℤ → A) (failed : E) (z held_z : ℤ) (holds : Bool) → test z ≡ holds → test held_z ≡ holds → (holds ≡ true → held_z ≡ z) → (demand (test held_z) failed >>= λ _. Ok (made held_z)) ≡ (demand (test z) failed >>= λ _. Ok (made z))
+tested_of_both test made failed z held_z true p q same = ap (λ v. demand (test v) failed >>= λ _. Ok (made v)) (same refl)
+tested_of_both test made failed z held_z false p q same = rw (p, q)
+
+-- a test that answers of what is held as of the number, and holds only where both are the same, lets the same through
+pub tested_held : {A E : Type 0} (test : ℤ → Bool) (made : ℤ → A) (missing failed : E) (number : Option ℤ) → ((z : ℤ) → test (held z) ≡ test z) → ((z : ℤ) → test z ≡ true → held z ≡ z) → (ok_or (option_map held number) missing >>= λ z. demand (test z) failed >>= λ _. Ok (made z)) ≡ (ok_or number missing >>= λ z. demand (test z) failed >>= λ _. Ok (made z))
+tested_held test made missing failed None answers same = refl
+tested_held test made missing failed (Some z) answers same = tested_of_both test made failed z (held z) (test z) refl (answers z) (same z)
 
 -- for a caller that tests the range of what is held: it closes what that tells of the number
 pub ruleset held_steps = (held_least, held_most, held_between)

@@ -7,26 +7,26 @@ use Rattle.std.proofs.lemmas.Bool.Decides.{nat_tests}
 use Rattle.std.proofs.lemmas.List.Folds.{list_all-append}
 use Rattle.std.proofs.lemmas.List.Splits.{slice_split_at, slice_split_none}
 use Rattle.std.proofs.lemmas.List.Sums.{AllPass-from_list_all}
-use Rattle.text_words.specs.Lines.{is_line_feed, without_empty_last, without_mark, lines_from, lines_of, is_blank, words_of}
-use Rattle.text_words.specs.Printed.{is_printed, is_word, are_words, behind_spaces, spaced, word_lines}
+use Rattle.text_words.specs.Lines.{is_line_feed, without_empty_last, without_mark, lines_from, lines_of, is_space_or_tab, words_of}
+use Rattle.text_words.specs.Printed.{behind_spaces, spaced, word_lines}
 use Rattle.text_words.proofs.Cuts.{words_in, words_in-cons}
-use Rattle.text_words.proofs.PrintedWords.{is_word_parts, printed-word, list_all_weaker}
+use Rattle.text_words.proofs.PrintedWords.{is_printed, is_word, are_words, is_word_parts, printed-word, list_all_weaker}
 
 -- ---- the words of a line
 
-no_blank : (byte : ℕ) → is_printed byte ≡ true → is_blank byte ≡ false
+no_blank : (byte : ℕ) → is_printed byte ≡ true → is_space_or_tab byte ≡ false
 no_blank byte is = grind (arith, nat_tests)
 
 -- no byte of a word is a blank
-no_blanks : (word : List ℕ) → is_word word ≡ true → All (λ byte. is_blank byte ≡ false) word
+no_blanks : (word : List ℕ) → is_word word ≡ true → All (λ byte. is_space_or_tab byte ≡ false) word
 no_blanks word is k d within = no_blank (get_or word k d) (AllPass-from_list_all is_printed word (printed-word word is) k d within)
 
 -- between blanks a printed line's pieces are its words
-pieces_of_words : (word : List ℕ) (words : List (List ℕ)) → is_word word ≡ true → are_words words ≡ true → slice_split is_blank (word ++ behind_spaces words) ≡ word ∷ words
-pieces_of_words word [] is all = ap (slice_split is_blank) (append-nil word) ∙ slice_split_none is_blank word (no_blanks word is)
+pieces_of_words : (word : List ℕ) (words : List (List ℕ)) → is_word word ≡ true → are_words words ≡ true → slice_split is_space_or_tab (word ++ behind_spaces words) ≡ word ∷ words
+pieces_of_words word [] is all = ap (slice_split is_space_or_tab) (append-nil word) ∙ slice_split_none is_space_or_tab word (no_blanks word is)
 pieces_of_words word (next ∷ words) is all =
     let parts = and_parts (is_word next) (are_words words) all in
-    slice_split_at is_blank word 32 (next ++ behind_spaces words) (no_blanks word is) refl ∙ ap (λ l. word ∷ l) (pieces_of_words next words parts.0 parts.1)
+    slice_split_at is_space_or_tab word 32 (next ++ behind_spaces words) (no_blanks word is) refl ∙ ap (λ l. word ∷ l) (pieces_of_words next words parts.0 parts.1)
 
 -- words are kept, since none is empty and none begins a comment
 words_in_words : (words : List (List ℕ)) → are_words words ≡ true → words_in words ≡ words

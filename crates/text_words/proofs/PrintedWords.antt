@@ -1,6 +1,6 @@
 -- Which words are printed words.
-use Rattle.std.proofs.Common.{◌≡◌, ℕ, ◌<◌, ◌^◌, Bool, true, not, ◌&&◌, List, [], ◌∷◌, ◌++◌, length, eqb, leb, ℤ, pos, negsuc, unsigned_abs, decimal, refl, ◌∙◌, arith, suc}
-use Rattle.std.specs.Char.{is_ascii_digit}
+use Rattle.std.proofs.Common.{◌≡◌, ℕ, ◌<◌, ◌^◌, Bool, true, false, not, ◌==◌, ◌&&◌, List, [], ◌∷◌, ◌++◌, length, eqb, leb, ℤ, pos, negsuc, unsigned_abs, decimal, refl, ◌∙◌, arith, suc}
+use Rattle.std.specs.Char.{is_ascii_digit, is_ascii_graphic}
 use Rattle.std.specs.List.{list_all}
 use Rattle.std.specs.Fmt.{signed_decimal}
 use Rattle.std.specs.Str.Parse.{AllDigits}
@@ -10,7 +10,23 @@ use Rattle.std.proofs.lemmas.Fmt.{decimal_is_IsNumeral_wide}
 use Rattle.std.proofs.lemmas.List.Folds.{list_all-append}
 use Rattle.std.proofs.lemmas.Str.Parse.{digit_from_value}
 use Rattle.text_words.specs.Names.{begins_name, continues_name, is_name}
-use Rattle.text_words.specs.Printed.{is_printed, begins_word, is_word}
+
+-- a byte of a printed word, from `!` to `~`: no space, no tab, no end of a line, and none above 127
+abbrev pub is_printed : ℕ → Bool
+is_printed byte = is_ascii_graphic byte
+
+-- one of these that may begin a word: `#` begins a comment
+abbrev pub begins_word : ℕ → Bool
+begins_word byte = is_printed byte && not (byte == 35)
+
+-- a printed word: one or more of these bytes, of which the first isn't `#`
+abbrev pub is_word : List ℕ → Bool
+is_word [] = false
+is_word (byte ∷ bytes) = begins_word byte && list_all is_printed bytes
+
+-- words that can be printed as one line
+abbrev pub are_words : List (List ℕ) → Bool
+are_words words = list_all is_word words
 
 -- ---- bytes of one sort are all of another
 

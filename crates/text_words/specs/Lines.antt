@@ -40,17 +40,17 @@ lines_of text = lines_from (without_mark text)
 -- ---- words
 
 -- a space or a tab
-abbrev pub is_blank : ℕ → Bool
-is_blank byte = (byte == 32) || (byte == 9)
+abbrev pub is_space_or_tab : ℕ → Bool
+is_space_or_tab byte = (byte == 32) || (byte == 9)
 
 -- the word begins with `#`
 abbrev pub begins_comment : List ℕ → Bool
 begins_comment word = slice_index word 0 == 35
 
--- the words of a line: its longest runs with no blank, up to the first that begins a comment
+-- the words of a line: its longest runs with no space or tab, up to the first that begins a comment
 unfoldable pub words_of : List ℕ → List (List ℕ)
 words_of line =
-    take_while (λ word. not (begins_comment word)) (filter (λ piece. not (is_empty piece)) (pieces is_blank line))
+    take_while (λ word. not (begins_comment word)) (filter (λ piece. not (is_empty piece)) (pieces is_space_or_tab line))
 
 -- word number k of a line's words, from 0; an empty one behind the last
 abbrev pub nth : List (List ℕ) → ℕ → List ℕ

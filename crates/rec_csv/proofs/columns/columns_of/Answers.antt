@@ -1,6 +1,7 @@
 use Rattle.std.proofs.Common.{◌+◌, ◌∙◌, ap, sym, drop}
 use Rattle.csv.specs.Records.{fields_of}
-use Rattle.rec_csv.specs.Headers.{columns_of, prepended}
+use Rattle.rec_csv.specs.Headers.{columns_of}
+use Rattle.rec_csv.proofs.Prepended.{prepended}
 use Rattle.rec_csv.proofs.ColumnFacts.{columns_step, one_longer, columns_fault, tells_columns}
 use Rattle.rec_csv.proofs.columns.columns_of.Goals as goal
 

@@ -1,6 +1,7 @@
 use Rattle.std.proofs.Common.{◌≡◌, drop, length}
 use Rattle.csv.specs.Records.{fields_of}
-use Rattle.rec_csv.specs.Headers.{columns_of, prepended}
+use Rattle.rec_csv.specs.Headers.{columns_of}
+use Rattle.rec_csv.proofs.Prepended.{prepended}
 use Rattle.rec_csv.proofs.columns.columns_of.Given as goal
 
 abbrev pub invariant-inputs : goal.invariant-inputs
