@@ -1,8 +1,7 @@
 -- The values of the steps are those of the machine's row.
-use Rattle.std.proofs.Common.{◌≡◌, ℕ, zero, suc, ◌+◌, ◌<◌, ◌≤◌, true, List, [], ◌∷◌, ◌++◌, map, length, get_or, take, ℤ, pos, ◌≤ℤ◌, int_le, refl, sym, ap, ap₂, ◌∙◌, subst, arith, cond, inl, inr}
+use Rattle.std.proofs.Common.{◌≡◌, ℕ, zero, suc, ◌+◌, ◌<◌, ◌≤◌, true, List, [], ◌∷◌, ◌++◌, map, length, get_or, take, ℤ, pos, refl, sym, ap, ap₂, ◌∙◌, subst, arith, cond, inl, inr}
 use Rattle.std.specs.Prelude.{Option, Some, None, IfSome, slice_get}
-use Rattle.std.proofs.lemmas.Bool.{cases_eq, and_parts}
-use Rattle.std.proofs.lemmas.Int.{ints}
+use Rattle.std.proofs.lemmas.Bool.{cases_eq}
 use Rattle.std.proofs.lemmas.List.{get_or_append_left, get_or_push, length_push, map-append}
 use Rattle.std.proofs.lemmas.List.Recursion.{is_count_by}
 use Rattle.std.proofs.Math.ListN.{get_or-map}
@@ -21,7 +20,7 @@ use Rattle.net_model.specs.declared.wires.Item.{Item}
 use Rattle.net_model.specs.declared.wires.Item.TheVariants.{Input, Const, Block as OfBlock}
 use Rattle.net_model.specs.declared.wires.Wire.{Wire}
 use Rattle.net_model.specs.Wires.{NetData, wire_at, argument_of, is_input, input_place, with_input, inputs_from, inputs_of}
-use Rattle.net_model.specs.Validity.{IsValid, kind_holds}
+use Rattle.net_model.specs.Validity.{IsValid}
 use Rattle.net_model.proofs.ValidityFacts.{IsInKind, in_kind, IsGoodArgument, const-valid, arith-valid, scaled-valid, number_kind, point_of-valid}
 use Rattle.net_model.proofs.BuiltFacts.{shift_from_test}
 use Rattle.net_meaning.specs.Cells.{Cell, plain, cell_at}

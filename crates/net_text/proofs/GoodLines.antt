@@ -1,5 +1,5 @@
 -- What a line that has no fault gives: a good wire of a fresh name, or an output that isn't one yet.
-use Rattle.std.proofs.Common.{◌≡◌, ℕ, suc, ◌+◌, ◌-◌, ◌*◌, Bool, true, false, not, ◌&&◌, ◌||◌, ◌==◌, cond, nat_le, nat_lt, List, [], ◌∷◌, length, take, drop, codes, bytes_eq, refl, sym, ap, subst, ◌∙◌, ℤ, pos, negsuc, int_le, Option, Some, None, Result, Ok, Err, arith}
+use Rattle.std.proofs.Common.{◌≡◌, ℕ, suc, ◌+◌, ◌-◌, ◌*◌, Bool, true, false, not, ◌&&◌, ◌||◌, ◌==◌, cond, nat_le, nat_lt, List, [], ◌∷◌, length, take, drop, codes, bytes_eq, refl, sym, ap, subst, ◌∙◌, ℤ, pos, int_le, Option, Some, None, Result, Ok, Err, arith}
 use Rattle.std.specs.Prelude.{ok_or, is_some, option_map, option_and_then, unsigned_abs, if◌then◌else◌}
 use Rattle.std.specs.Char.{is_ascii_digit}
 use Rattle.std.specs.List.{list_any, position_or_len}
@@ -34,7 +34,7 @@ use Rattle.net_model.specs.Wires.{place_of}
 use Rattle.net_model.specs.Built.{has_shift, is_shift}
 use Rattle.net_model.specs.Validity.{is_among, is_good_kind, kind_holds, has_good_numbers, agrees, is_earlier, type_read, is_built_item, item_reads_earlier, item_agrees, item_in_range}
 use Rattle.net_text.specs.TypeWords.{ty_of, ty_len, one_digit, two_digits, point_of_word, number_kind_of, kind_of}
-use Rattle.net_text.specs.RoutineWords.{is_built_routine, built_at, routine_at, arity_of, is_shifting, block_of}
+use Rattle.net_text.specs.RoutineWords.{is_built_routine, built_at, routine_at, arity_of, block_of}
 use Rattle.net_text.specs.Forms.{keyword_of, is_wire, are_known, axis_passes, is_type, is_narrow, argument_at, arguments_of, shift_at, shift_of, words_wanted, wire_above, fresh, has_room, number_at, input_of, const_of, kind_at, agreed, in_line, const_line, wire_line, unbuilt_line, line_of, is_known, is_output, out_line, defining_line}
 
 -- ---- tests

@@ -1,8 +1,7 @@
 -- A number that is held in 64 bits passes the tests of a line exactly where the number that is written does.
-use Rattle.std.proofs.Common.{◌≡◌, ◌∙◌, ℕ, List, Bool, true, false, ◌&&◌, ap, ap₂, sym, refl, ℤ, pos, negsuc, int_le, Option, Some, None, option_map, Result, Ok, min, nat_le, ◌^◌, ◌-◌, ◌==◌, arith}
+use Rattle.std.proofs.Common.{◌≡◌, ◌∙◌, ℕ, List, Bool, true, false, ◌&&◌, ap₂, sym, refl, ℤ, pos, negsuc, int_le, Option, Some, None, option_map, Result, Ok, arith}
 use Rattle.std.specs.Prelude.{ok_or, unsigned_abs}
 use Rattle.std.proofs.lemmas.Bool.{and_parts, true≢false}
-use Rattle.std.proofs.lemmas.Bool.Decides.{nat_tests}
 use Rattle.std.proofs.lemmas.Int.{ints}
 use Rattle.fx_routines.specs.declared.operation.ArithOp.{ArithOp}
 use Rattle.fx_routines.specs.declared.operation.ArithOp.TheVariants.{MulShRight, DivShLeft}

@@ -1,5 +1,5 @@
 -- The line of a wire is read as the wire.
-use Rattle.std.proofs.Common.{◌≡◌, ℕ, ◌≤◌, ◌<◌, ◌^◌, true, false, eqb, int_le, List, [], ◌∷◌, ◌++◌, map, length, take, ℤ, unsigned_abs, Ok, arith, ne_eqb}
+use Rattle.std.proofs.Common.{◌≡◌, ℕ, ◌≤◌, ◌<◌, ◌^◌, true, int_le, List, [], ◌∷◌, ◌++◌, map, length, take, ℤ, unsigned_abs, Ok, arith}
 use Rattle.std.specs.Fmt.{signed_decimal}
 use Rattle.std.proofs.lemmas.Bool.{and_parts}
 use Rattle.std.proofs.lemmas.Int.{ints}
@@ -22,7 +22,7 @@ use Rattle.net_text.specs.Forms.{keyword_of, line_of, defining_line, wire_line}
 use Rattle.net_text.specs.Text.{after_definition, after_line}
 use Rattle.net_text.specs.Printing.{kind_word, block_name, argument_words, shift_words, wire_words}
 use Rattle.net_text.proofs.PrintedKinds.{kind_of-kind_word, is_position-kind_word}
-use Rattle.net_text.proofs.PrintedForms.{IsNew, block_line, in_line-reads, const_line-reads, wire_line-reads}
+use Rattle.net_text.proofs.PrintedForms.{IsNew, in_line-reads, const_line-reads, wire_line-reads}
 use Rattle.net_text.proofs.PrintedBlocks.{agrees_so_far, arith_line, scaled_line, all_three}
 
 -- ---- numbers of a kind are short

@@ -5,7 +5,6 @@ use Rattle.rec_csv.specs.declared.columns.Column.{Column}
 use Rattle.rec_csv.specs.declared.faults.RowFault.{RowFault}
 use Rattle.rec_csv.specs.declared.faults.RowFault.TheVariants.{BadLine, BadWidth, BadNumber, OutOfType, OutOfMemory}
 use Rattle.rec_csv.specs.Fields.{field_in}
-use Rattle.text_words.specs.Steps.{◌>>=◌}
 use Rattle.rec_csv.specs.Slots.{column_at, no_column}
 use Rattle.rec_csv.specs.Rows.{Leaves, Tells, input_values, input_value, good_values}
 use Rattle.rec_csv.proofs.Prepended.{prepended, one_more}

@@ -92,7 +92,10 @@ fn spaces_before(field: &[u8]) -> usize
     ensures value { result ≡ prefix_len is_space_or_tab field.now }
     ensures within { result ≤ length field.now }
 {
-    field.iter().take_while(|byte| is_space_or_tab(**byte)).count()
+    field
+        .iter()
+        .take_while(|byte| is_space_or_tab(**byte))
+        .count()
 }
 
 fn spaces_behind(field: &[u8]) -> usize

@@ -24,7 +24,10 @@ fn spaces_before(bytes: &[u8]) -> usize
     ensures value { result ≡ prefix_len is_space_or_tab bytes.now }
     ensures within { result ≤ length bytes.now }
 {
-    bytes.iter().take_while(|byte| is_space_or_tab(**byte)).count()
+    bytes
+        .iter()
+        .take_while(|byte| is_space_or_tab(**byte))
+        .count()
 }
 
 // How many bytes stand before the first space or tab.
@@ -32,7 +35,10 @@ fn word_len(bytes: &[u8]) -> usize
     ensures value { result ≡ prefix_len (λ byte. not (is_space_or_tab byte)) bytes.now }
     ensures within { result ≤ length bytes.now }
 {
-    bytes.iter().take_while(|byte| !is_space_or_tab(**byte)).count()
+    bytes
+        .iter()
+        .take_while(|byte| !is_space_or_tab(**byte))
+        .count()
 }
 
 /// Whether the byte stands between words.

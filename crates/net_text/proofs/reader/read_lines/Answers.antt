@@ -1,4 +1,4 @@
-use Rattle.std.proofs.Common.{sym, ap, subst, ◌∙◌, [], Result}
+use Rattle.std.proofs.Common.{sym, ap, subst, ◌∙◌}
 use Rattle.text_words.specs.Lines.{lines_of}
 use Rattle.text_words.specs.Readers.{read_below}
 use Rattle.net_model.specs.Drafts.{data_of}
