@@ -1,8 +1,7 @@
 -- The values of the steps are those of the machine's row.
-use Rattle.std.proofs.Common.{◌≡◌, ℕ, zero, suc, ◌+◌, ◌<◌, ◌≤◌, true, List, [], ◌∷◌, ◌++◌, map, length, get_or, take, ℤ, pos, ◌≤ℤ◌, int_le, refl, sym, ap, ap₂, ◌∙◌, subst, arith, cond, inl, inr}
+use Rattle.std.proofs.Common.{◌≡◌, ℕ, zero, suc, ◌+◌, ◌<◌, ◌≤◌, true, List, [], ◌∷◌, ◌++◌, map, length, get_or, take, ℤ, pos, refl, sym, ap, ap₂, ◌∙◌, subst, arith, cond, inl, inr}
 use Rattle.std.specs.Prelude.{Option, Some, None, IfSome, slice_get}
-use Rattle.std.proofs.lemmas.Bool.{cases_eq, and_parts}
-use Rattle.std.proofs.lemmas.Int.{ints}
+use Rattle.std.proofs.lemmas.Bool.{cases_eq}
 use Rattle.std.proofs.lemmas.List.{get_or_append_left, get_or_push, length_push, map-append}
 use Rattle.std.proofs.lemmas.List.Recursion.{is_count_by}
 use Rattle.std.proofs.Math.ListN.{get_or-map}
@@ -22,8 +21,8 @@ use Rattle.net_model.specs.declared.wires.Item.{Item}
 use Rattle.net_model.specs.declared.wires.Item.TheVariants.{Input, Const, Block as OfBlock}
 use Rattle.net_model.specs.declared.wires.Wire.{Wire}
 use Rattle.net_model.specs.Wires.{NetData, wire_at, argument_of, is_input, input_place, with_input, inputs_from, inputs_of}
-use Rattle.net_model.specs.Validity.{IsValid, kind_holds}
-use Rattle.net_model.proofs.ValidityFacts.{IsInKind, IsGoodArgument, const-valid, arith-valid, scaled-valid, number_kind, point_of-valid}
+use Rattle.net_model.specs.Validity.{IsValid}
+use Rattle.net_model.proofs.ValidityFacts.{IsInKind, in_kind, IsGoodArgument, const-valid, arith-valid, scaled-valid, number_kind, point_of-valid}
 use Rattle.net_model.proofs.BuiltFacts.{shift_from_test}
 use Rattle.net_meaning.specs.Cells.{Cell, plain, cell_at}
 use Rattle.net_meaning.specs.Blocks.{machine, machine_cell, formula, state_formula, quotient_of, points_of}
@@ -94,14 +93,6 @@ pub place_below : (wires : List Wire) (i : ℕ) → i < length wires → is_inpu
 place_below wires i lt h = omega (arith, input_count-is wires i, place_below_from wires 0 i lt h)
 
 -- ---- values lie in their kinds
-
-le_from_test : (a b : ℤ) → int_le a b ≡ true → a ≤ℤ b
-le_from_test a b h = grind (arith, ints)
-
-in_kind : (kind : Kind) (v : ℤ) → kind_holds kind v ≡ true → IsInKind kind v
-in_kind kind v h =
-    let p = and_parts _ _ h in
-    record { low = le_from_test _ _ p.0; high = le_from_test _ _ p.1 }
 
 held_in_kind : (ty : Ty) (kind : Kind) (point : ℕ) (v : ℤ) → kind ≡ Num ty point → Holds ty v → IsInKind kind v
 held_in_kind ty kind point v e h = subst (λ k. IsInKind k v) (sym e) (record { low = h.0; high = h.1 })

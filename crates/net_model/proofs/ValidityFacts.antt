@@ -118,7 +118,7 @@ pub record IsInKind (kind : Kind) (v : ℤ) : Type 0 where
   pub low : kind_least kind ≤ℤ v
   pub high : v ≤ℤ kind_greatest kind
 
-in_kind : (kind : Kind) (v : ℤ) → kind_holds kind v ≡ true → IsInKind kind v
+pub in_kind : (kind : Kind) (v : ℤ) → kind_holds kind v ≡ true → IsInKind kind v
 in_kind kind v h =
     let p = and_parts _ _ h in
     record { low = le_from_test _ _ p.0; high = le_from_test _ _ p.1 }

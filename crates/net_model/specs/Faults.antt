@@ -10,8 +10,7 @@ use Rattle.net_model.specs.declared.draft_checks.Fault.{Fault}
 use Rattle.net_model.specs.declared.wires.WireNo.{WireNo}
 use Rattle.net_model.specs.declared.wires.Wire.{Wire}
 use Rattle.net_model.specs.Wires.{NetData}
-use Rattle.net_model.specs.Validity.{is_good_kind, is_built_item, item_reads_earlier, item_agrees, item_in_range, most_wires}
-pub use Rattle.net_model.specs.Validity.{is_among, has_ends}
+use Rattle.net_model.specs.Validity.{is_good_kind, is_built_item, item_reads_earlier, item_agrees, item_in_range, is_among, has_ends, most_wires}
 
 -- the name of each wire is one
 abbrev pub are_named : List Wire → Bool

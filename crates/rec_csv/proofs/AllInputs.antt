@@ -13,7 +13,7 @@ use Rattle.rec_csv.specs.declared.faults.RowFault.{RowFault}
 use Rattle.rec_csv.specs.declared.faults.RowFault.TheVariants.{BadLine, BadWidth}
 use Rattle.rec_csv.specs.Fields.{fields_of_line, field_in, is_blank}
 use Rattle.rec_csv.specs.Headers.{HeaderData, header_of, column_of, columns_of}
-use Rattle.rec_csv.specs.Rows.{row_of, value_of, values_of}
+use Rattle.rec_csv.specs.Rows.{row_of, input_value, input_values}
 use Rattle.rec_csv.specs.Recordings.{Headed, headed, head_of, RecordingFault, RowsRead, row_or_end, rows_below, read_below, recording_of}
 
 -- what holds behind a step that gave something
@@ -44,16 +44,16 @@ header_count wires line header h =
     of_columns fields k =
         behind (length header.columns ≡ length (inputs_of wires)) (columns_of fields wires (inputs_of wires)) (λ columns. Ok (record { width = length fields; columns = columns })) header (λ columns made l. let e : record { width = length fields; columns = columns } ≡ header = cc in ap (λ (x : HeaderData). length x.columns) (sym e) ∙ columns_count fields wires (inputs_of wires) columns made) k
 
-values_count : (columns : List Column) (fields : List (List ℕ)) (values : List ℤ) → values_of columns fields ≡ Ok values → length values ≡ length columns
-unfolding values_of
+values_count : (columns : List Column) (fields : List (List ℕ)) (values : List ℤ) → input_values columns fields ≡ Ok values → length values ≡ length columns
+unfolding input_values
 values_count [] fields values h = let e : [] ≡ values = cc in ap length (sym e)
 values_count (column ∷ columns) fields values h =
-    one_longer (value_of column (field_in fields column.place)) (values_of columns fields) values (length columns) (values_count columns fields) h
+    one_longer (input_value column (field_in fields column.place)) (input_values columns fields) values (length columns) (values_count columns fields) h
 
 row_count : (header : HeaderData) (line : List ℕ) (values : List ℤ) → row_of header line ≡ Ok values → length values ≡ length header.columns
 unfolding row_of
 row_count header line values h =
-    behind (length values ≡ length header.columns) (ok_or (fields_of_line line) BadLine) (λ fields. demand (nat_le header.width (length fields)) BadWidth >>= (λ _. values_of header.columns fields)) values (λ fields is_fields k. behind (length values ≡ length header.columns) (demand (nat_le header.width (length fields)) BadWidth) (λ _. values_of header.columns fields) values (λ u passes l. values_count header.columns fields values l) k) h
+    behind (length values ≡ length header.columns) (ok_or (fields_of_line line) BadLine) (λ fields. demand (nat_le header.width (length fields)) BadWidth >>= (λ _. input_values header.columns fields)) values (λ fields is_fields k. behind (length values ≡ length header.columns) (demand (nat_le header.width (length fields)) BadWidth) (λ _. input_values header.columns fields) values (λ u passes l. values_count header.columns fields values l) k) h
 
 -- ---- all rows
 
