@@ -1,15 +1,15 @@
 -- What the steps of a command gave where its work was done in the end.
-use Rattle.std.proofs.Common.{◌≡◌, ℕ, ◌<◌, Bool, true, false, List, length, Result, Ok, Err, refl, sym, ap, subst, arith, if◌then◌else◌}
+use Rattle.std.proofs.Common.{◌≡◌, ℕ, ◌<◌, Bool, true, false, List, length, Result, Ok, Err, refl, sym, ap, ◌∙◌, subst, arith, if◌then◌else◌}
 use Rattle.std.specs.Prelude.{nat_lt}
 use Rattle.fx_io.specs.Outside.{bytes_of}
 use Rattle.net_model.specs.Wires.{NetData}
 use Rattle.net_text.specs.declared.reader.NetFault.{NetFault}
 use Rattle.net_text.specs.Text.{network_of}
 use Rattle.text_words.specs.Steps.{◌>>=◌}
-use Rattle.bench_core.specs.Outcomes.{Outcome, Refusal, after}
+use Rattle.bench_core.specs.Outcomes.{Outcome, Refusal, reading, unless_refused}
 use Rattle.bench_core.specs.RefusalTexts.{too_long}
 use Rattle.bench_core.specs.FaultTexts.{bad_network}
-use Rattle.bench_core.specs.CheckAnswer.{if_faultless, file_read, network_in, network_read, text_limit}
+use Rattle.bench_core.specs.FilesRead.{if_faultless, file_read, network_in, network_read, over_two_files, text_limit}
 
 -- a step's refusals have other statuses than 0
 abbrev pub RefusesAbove : {T : Type 0} → Result T Refusal → Type 0
@@ -30,9 +30,9 @@ pub record Passed {T : Type 0} (step : Result T Refusal) (next : T → Outcome) 
   pub given : T
   pub gives : step ≡ Ok given
   pub done_after : (next given).status ≡ 0
-  pub prints : (after step next).out ≡ (next given).out
+  pub prints : (unless_refused step next).out ≡ (next given).out
 
-pub passed : {T : Type 0} (step : Result T Refusal) (next : T → Outcome) → RefusesAbove step → (after step next).status ≡ 0 → Passed step next
+pub passed : {T : Type 0} (step : Result T Refusal) (next : T → Outcome) → RefusesAbove step → (unless_refused step next).status ≡ 0 → Passed step next
 passed (Ok x) next above h = record { given = x; gives = refl; done_after = h; prints = refl }
 passed (Err r) next above h = let p : 0 < r.status = above r refl in absurd (omega arith)
 
@@ -91,3 +91,27 @@ network_given files name net h =
     let p = chain_given (file_read files name text_limit) (network_in name) net h in
     let e = bytes_given (nat_lt text_limit (length bytes)) name bytes p.middle p.first in
     subst (λ b. network_of b ≡ Ok net) e (given_faultless (bad_network name) (network_of p.middle) net p.second)
+
+-- ---- a command over two files
+
+-- what both files gave where the work was done in the end
+pub record PassedBoth (files : List (List ℕ × List ℕ)) (net other : List ℕ) (work : NetData → List ℕ → Outcome) (o : Outcome) : Type 0 where
+  pub network : NetData
+  pub is_network : network_of (bytes_of files net) ≡ Ok network
+  pub done_after : (work network (bytes_of files other)).status ≡ 0
+  pub prints : o.out ≡ (work network (bytes_of files other)).out
+
+pub passed_both : (files : List (List ℕ × List ℕ)) (net other : List ℕ) (limit : ℕ) (work : NetData → List ℕ → Outcome) → (over_two_files files net other limit work).status ≡ 0 → PassedBoth files net other work (over_two_files files net other limit work)
+unfolding over_two_files
+passed_both files net other limit work h =
+    let n = passed (network_read files net) (λ (m : NetData). reading other (file_read files other limit) (work m)) (network_above files net) h in
+    let bytes = bytes_of files other in
+    let long = nat_lt limit (length bytes) in
+    let b = passed (file_read files other limit) (work n.given) (bytes_above long other bytes) n.done_after in
+    let given : b.given ≡ bytes = bytes_given long other bytes b.given b.gives in
+    record {
+      network = n.given;
+      is_network = network_given files net n.given n.gives;
+      done_after = subst (λ t. (work n.given t).status ≡ 0) given b.done_after;
+      prints = n.prints ∙ b.prints ∙ ap (λ t. (work n.given t).out) given;
+    }

@@ -15,7 +15,7 @@ use Rattle.rec_csv.specs.Rows.{row_of}
 use Rattle.rec_csv.specs.Recordings.{Headed, RecordingFault, no_header, bad_header, bad_row, head_of, headed, read_below, recording_of, rows_below}
 use Rattle.bench_core.specs.declared.endings.Ending.{Ending}
 use Rattle.bench_core.specs.declared.endings.Ending.TheVariants.{OutOfMemory}
-use Rattle.bench_core.specs.Outcomes.{Outcome, after, done, printed, refused}
+use Rattle.bench_core.specs.Outcomes.{Outcome, done, printed, refused, unless_refused}
 use Rattle.bench_core.specs.HowItEnds.{RefusesWith, StopsInside}
 use Rattle.bench_core.specs.PrintedRuns.{rows_text, names_line, values_line}
 use Rattle.bench_core.specs.RecordingTexts.{recording_refused}
@@ -72,12 +72,12 @@ empty_stops net all e same is = stops_at_refusal (head_step net all) _ e (none_r
 printed_twice : (front back : List ℕ) (o : Outcome) → printed (front ++ back) o ≡ printed front (printed back o)
 printed_twice front back o = ap (λ l. record { status = o.status; out = l; err = o.err; reads = o.reads }) (append_assoc front back o.out)
 
-run_from_head : (net : NetData) (h : Result Headed RecordingFault) → run_recording net (read_below h) ≡ after (refusing net.wires h) (headed_answer net)
+run_from_head : (net : NetData) (h : Result Headed RecordingFault) → run_recording net (read_below h) ≡ unless_refused (refusing net.wires h) (headed_answer net)
 unfolding run_recording headed_answer rows_answer
 run_from_head net (Err fault) = refl
 run_from_head net (Ok h) = printed_twice (names_line net) _ _
 
-pub run_by_head : (net : NetData) (bytes : List ℕ) → run_bytes net bytes ≡ after (head_step net (lines_of bytes)) (headed_answer net)
+pub run_by_head : (net : NetData) (bytes : List ℕ) → run_bytes net bytes ≡ unless_refused (head_step net (lines_of bytes)) (headed_answer net)
 unfolding run_bytes recording_of head_step
 run_by_head net bytes = run_from_head net (head_of net.wires (lines_of bytes))
 

@@ -1,7 +1,6 @@
 -- Where `run` answers 0, it printed the network's meaning over the recording.
-use Rattle.std.proofs.Common.{◌≡◌, ℕ, Bool, true, false, List, [], ◌++◌, length, Option, Some, None, Result, Ok, Err, refl, sym, ◌∙◌, ap, subst, append-nil, arith, ℤ}
-use Rattle.std.specs.Prelude.{codes, nat_lt, ◌&&◌}
-use Rattle.std.specs.Io.KnownBytes.{Appends}
+use Rattle.std.proofs.Common.{◌≡◌, ℕ, Bool, true, false, List, [], ◌++◌, Option, Some, None, Result, Ok, Err, refl, sym, ◌∙◌, ap, subst, append-nil, arith, ℤ}
+use Rattle.std.specs.Prelude.{codes, ◌&&◌}
 use Rattle.fx_io.specs.Outside.{bytes_of}
 use Rattle.net_model.specs.declared.wires.Wire.{Wire}
 use Rattle.net_model.specs.Wires.{NetData}
@@ -12,17 +11,17 @@ use Rattle.net_meaning.proofs.TableRun.{table_is_run}
 use Rattle.net_meaning.proofs.OneRun.{runs_agree}
 use Rattle.rec_csv.specs.Recordings.{Headed, Recording, RecordingFault, no_header, bad_header, bad_row, head_of, read_below, recording_of}
 use Rattle.text_words.specs.Lines.{lines_of}
+use Rattle.bench_core.specs.Calls.{SinkCall, Writes}
 use Rattle.bench_core.specs.Outcomes.{Outcome}
 use Rattle.bench_core.specs.Requests.{is_file_word, run_words, request_of}
 use Rattle.bench_core.proofs.RequestLaws.{over_files}
-use Rattle.bench_core.specs.CheckAnswer.{file_read, network_read}
 use Rattle.bench_core.specs.PrintedRuns.{run_text}
 use Rattle.bench_core.specs.RecordingTexts.{recording_refused}
-use Rattle.bench_core.specs.RunAnswer.{recording_end, recording_limit, run_answer, run_bytes, run_network, run_printed, run_recording}
+use Rattle.bench_core.specs.RunAnswer.{recording_end, recording_limit, run_answer, run_bytes, run_printed, run_recording}
 use Rattle.bench_core.specs.WholeAnswer.{answer_of, answer_of_request}
 use Rattle.bench_core.specs.Headline.{IsRunOf}
 use Rattle.bench_core.specs.Clauses.{Runs}
-use Rattle.bench_core.proofs.PassedSteps.{bytes_above, bytes_given, network_above, network_given, passed}
+use Rattle.bench_core.proofs.PassedSteps.{passed_both}
 
 -- ---- a recording that is read out
 
@@ -71,26 +70,21 @@ record IsRunDone (files : List (List ℕ × List ℕ)) (net rec : List ℕ) (o :
   pub runs : IsRunOf (bytes_of files net) (bytes_of files rec) o.out
 
 run_done : (files : List (List ℕ × List ℕ)) (net rec : List ℕ) → (run_answer files net rec).status ≡ 0 → IsRunDone files net rec (run_answer files net rec)
-unfolding run_answer run_network
+unfolding run_answer
 run_done files net rec h =
-    let n = passed (network_read files net) (run_network files rec) (network_above files net) h in
-    let bytes = bytes_of files rec in
-    let long = nat_lt recording_limit (length bytes) in
-    let b = passed (file_read files rec recording_limit) (run_bytes n.given) (bytes_above long rec bytes) n.done_after in
-    let given : b.given ≡ bytes = bytes_given long rec bytes b.given b.gives in
-    let r = bytes_read_out n.given b.given b.done_after in
-    let is_network = network_given files net n.given n.gives in
-    let valid = network_of_valid (bytes_of files net) n.given is_network in
+    let n = passed_both files net rec recording_limit run_bytes h in
+    let r = bytes_read_out n.network (bytes_of files rec) n.done_after in
+    let valid = network_of_valid (bytes_of files net) n.network n.is_network in
     record {
       runs = record {
-        network = n.given;
+        network = n.network;
         rows = r.rows;
-        cells = table machine n.given.wires r.rows;
-        is_network = is_network;
-        is_recording = ap (recording_of n.given.wires) (sym given) ∙ r.is_recording;
-        is_run = table_is_run machine n.given valid r.rows;
-        is_only = λ others run. runs_agree machine n.given valid r.rows others (table machine n.given.wires r.rows) run (table_is_run machine n.given valid r.rows);
-        prints = n.prints ∙ b.prints ∙ r.prints;
+        cells = table machine n.network.wires r.rows;
+        is_network = n.is_network;
+        is_recording = r.is_recording;
+        is_run = table_is_run machine n.network valid r.rows;
+        is_only = λ others run. runs_agree machine n.network valid r.rows others (table machine n.network.wires r.rows) run (table_is_run machine n.network valid r.rows);
+        prints = n.prints ∙ r.prints;
       };
     }
 
@@ -106,6 +100,6 @@ words_run files words net rec w h =
     subst P (sym w) (asked_run files net rec (is_file_word net && is_file_word rec)) h
 
 -- status 0 for the words of `run`
-pub runs_done : (files : List (List ℕ × List ℕ)) (words : List (List ℕ)) (net rec : List ℕ) (old new : Option (List ℕ)) → words ≡ run_words net rec → ((answer_of words files).status ≡ 0) × Appends old new (answer_of words files).out → Runs files net rec old new
-runs_done files words net rec old new w h =
+pub runs_done : (files : List (List ℕ × List ℕ)) (words : List (List ℕ)) (net rec : List ℕ) (out : SinkCall) → words ≡ run_words net rec → ((answer_of words files).status ≡ 0) × Writes out (answer_of words files).out → Runs files net rec out
+runs_done files words net rec out w h =
     ((answer_of words files).out, h.1, (words_run files words net rec w h.0).runs)

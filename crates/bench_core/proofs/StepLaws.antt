@@ -4,7 +4,7 @@ use Rattle.bench_core.specs.declared.endings.Ending.{Ending}
 use Rattle.bench_core.specs.declared.endings.Ending.TheVariants.{Usage, Refused, CannotRead, CannotWrite, OutOfMemory}
 use Rattle.bench_core.specs.Outcomes.{Refusal}
 use Rattle.text_words.specs.Steps.{◌>>=◌}
-use Rattle.bench_core.specs.HowItEnds.{Gives, Makes, RefusesWith, StopsAt, StopsInside}
+use Rattle.bench_core.specs.HowItEnds.{ReadsAs, Makes, RefusesWith, StopsAt, StopsInside}
 
 -- two refusals of one status and one text are one
 abbrev made : ℕ → List ℕ → Refusal
@@ -30,7 +30,7 @@ stops_at_first step f CannotWrite h = tt
 stops_at_first step f OutOfMemory h = tt
 
 -- the second part, behind the first, gives what both give
-pub gives_from_parts : {T U A B : Type 0} (view : T → A) (view' : U → B) (step : Result A Refusal) (f : A → Result B Refusal) (v : T) (r : Result U Ending) → Gives view step (Ok v) → Makes view' (f (view v)) r → Gives view' (step >>= f) r
+pub gives_from_parts : {T U A B : Type 0} (view : T → A) (view' : U → B) (step : Result A Refusal) (f : A → Result B Refusal) (v : T) (r : Result U Ending) → ReadsAs view step (Ok v) → Makes view' (f (view v)) r → ReadsAs view' (step >>= f) r
 gives_from_parts view view' step f v (Ok u) p h = ap (λ s. s >>= f) p ∙ h
 gives_from_parts view view' step f v (Err Usage) p h = tt
 gives_from_parts view view' step f v (Err (Refused n)) p h = ap (λ s. s >>= f) p ∙ h

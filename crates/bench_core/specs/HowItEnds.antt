@@ -1,15 +1,17 @@
--- How a step and a command end, what is then said, and why.
-use Rattle.std.specs.Prelude.{◌≡◌, ℕ, ◌≤◌, List, [], take, ◌⊎◌, ⊤, Contains, Option, Result, Ok, Err}
-use Rattle.std.specs.Io.KnownBytes.{Appends}
+-- How a step and a command end, what is then said, and why: for the clauses of private functions alone.
+use Rattle.std.specs.Prelude.{◌≡◌, ℕ, ◌≤◌, List, [], ◌⊎◌, ⊤, Contains, IsSome, Option, None, Result, Ok, Err}
 use Rattle.fx_io.specs.Causes.{Rose}
 use Rattle.bench_core.specs.declared.endings.Ending.{Ending}
 use Rattle.bench_core.specs.declared.endings.Ending.TheVariants.{Usage, Refused, CannotRead, CannotWrite, OutOfMemory}
+use Rattle.net_model.specs.Wires.{NetData}
+use Rattle.bench_core.specs.Calls.{SinkCall, ShelfCall, Writes, WritesFront, SaysAll}
 use Rattle.bench_core.specs.Outcomes.{Outcome, Refusal}
+use Rattle.bench_core.specs.Requests.{Request, files_asked}
 use Rattle.bench_core.specs.RefusalTexts.{usage, cannot_read, cannot_write, out_of_memory}
 
--- a front of these bytes was written, where what is written is told
-abbrev pub WritesFront : Option (List ℕ) → Option (List ℕ) → List ℕ → Type 0
-WritesFront old new bytes = (k : ℕ) × Appends old new (take k bytes)
+-- a sink over a call that writes nothing
+abbrev pub still : Option (List ℕ) → ℕ → SinkCall
+still old count = record { old = old; new = old; before = count; now = count }
 
 -- A step: a part of a command that gives something to go on with, or ends it.
 
@@ -38,22 +40,23 @@ StopsAt step CannotWrite = ⊤
 StopsAt step OutOfMemory = ⊤
 
 -- a step over a file gave what it is said to give, seen by `view`, or stopped
-abbrev pub Gives : {T A : Type 0} → (T → A) → Result A Refusal → Result T Ending → Type 0
-Gives view step (Ok v) = step ≡ Ok (view v)
-Gives view step (Err e) = StopsAt step e
+abbrev pub ReadsAs : {T A : Type 0} → (T → A) → Result A Refusal → Result T Ending → Type 0
+ReadsAs view step (Ok v) = step ≡ Ok (view v)
+ReadsAs view step (Err e) = StopsAt step e
 
 -- why a step over a file stopped: the count of faults rose and its file failed
-abbrev pub HasStopCause : List ℕ → ℕ → ℕ → List ℕ → Ending → Type 0
-HasStopCause file before now failed Usage = ⊥
-HasStopCause file before now failed (Refused n) = ⊤
-HasStopCause file before now failed (CannotRead text) = Rose before now × (failed ≡ file) × (text.items ≡ cannot_read file)
-HasStopCause file before now failed CannotWrite = ⊥
-HasStopCause file before now failed OutOfMemory = ⊤
+abbrev pub HasStopCause : List ℕ → ShelfCall → Ending → Type 0
+HasStopCause file shelf Usage = ⊥
+HasStopCause file shelf (Refused n) = ⊤
+HasStopCause file shelf (CannotRead text) =
+    Rose shelf.before shelf.now × (shelf.failed ≡ file) × (text.items ≡ cannot_read file)
+HasStopCause file shelf CannotWrite = ⊥
+HasStopCause file shelf OutOfMemory = ⊤
 
 -- the same of a step over a file, whether it stopped or not: no count of faults falls
-abbrev pub HasStepCause : {T : Type 0} → List ℕ → ℕ → ℕ → List ℕ → Result T Ending → Type 0
-HasStepCause file before now failed (Ok v) = before ≤ now
-HasStepCause file before now failed (Err e) = HasStopCause file before now failed e
+abbrev pub HasStepCause : {T : Type 0} → List ℕ → ShelfCall → Result T Ending → Type 0
+HasStepCause file shelf (Ok v) = shelf.before ≤ shelf.now
+HasStepCause file shelf (Err e) = HasStopCause file shelf e
 
 -- a step that the outside has no part in stopped at its refusal, or for want of memory
 abbrev pub StopsInside : {A : Type 0} → Result A Refusal → Ending → Type 0
@@ -69,46 +72,65 @@ Makes view step (Ok v) = step ≡ Ok (view v)
 Makes view step (Err e) = StopsInside step e
 
 -- printing stopped behind a front of the bytes, because the sink failed or for want of memory
-abbrev pub StopsPrinting : List ℕ → Option (List ℕ) → Option (List ℕ) → ℕ → ℕ → Ending → Type 0
-StopsPrinting bytes old new before now Usage = ⊥
-StopsPrinting bytes old new before now (Refused n) = ⊥
-StopsPrinting bytes old new before now (CannotRead text) = ⊥
-StopsPrinting bytes old new before now CannotWrite = Rose before now × WritesFront old new bytes
-StopsPrinting bytes old new before now OutOfMemory = WritesFront old new bytes
+abbrev pub StopsPrinting : List ℕ → SinkCall → Ending → Type 0
+StopsPrinting bytes out Usage = ⊥
+StopsPrinting bytes out (Refused n) = ⊥
+StopsPrinting bytes out (CannotRead text) = ⊥
+StopsPrinting bytes out CannotWrite = Rose out.before out.now × WritesFront out bytes
+StopsPrinting bytes out OutOfMemory = WritesFront out bytes
 
 -- printing these bytes: all were written, or it stopped
-abbrev pub Prints : {T : Type 0} → List ℕ → Option (List ℕ) → Option (List ℕ) → ℕ → ℕ → Result T Ending → Type 0
-Prints bytes old new before now (Ok v) = Appends old new bytes
-Prints bytes old new before now (Err e) = StopsPrinting bytes old new before now e
+abbrev pub Prints : {T : Type 0} → List ℕ → SinkCall → Result T Ending → Type 0
+Prints bytes out (Ok v) = Writes out bytes
+Prints bytes out (Err e) = StopsPrinting bytes out e
 
 -- A command.
 
 -- a command ended early: at its refusal with all printed that comes before it, or because of the outside or for want of
 -- memory behind a front of what is to be printed
-abbrev pub EndsEarly : Outcome → List ℕ → Option (List ℕ) → Option (List ℕ) → Ending → Type 0
-EndsEarly o failed old new Usage = (o.status ≡ 1) × (o.err ≡ usage.text) × Appends old new o.out
-EndsEarly o failed old new (Refused n) = (o.status ≡ n.status) × (o.err ≡ n.text.items) × Appends old new o.out
-EndsEarly o failed old new (CannotRead text) = Contains o.reads failed × WritesFront old new o.out
-EndsEarly o failed old new CannotWrite = WritesFront old new o.out
-EndsEarly o failed old new OutOfMemory = WritesFront old new o.out
+abbrev pub EndsEarly : Outcome → List ℕ → SinkCall → Ending → Type 0
+EndsEarly o failed out Usage = (o.status ≡ 1) × (o.err ≡ usage.text) × Writes out o.out
+EndsEarly o failed out (Refused n) = (o.status ≡ n.status) × (o.err ≡ n.text.items) × Writes out o.out
+EndsEarly o failed out (CannotRead text) = Contains o.reads failed × WritesFront out o.out
+EndsEarly o failed out CannotWrite = WritesFront out o.out
+EndsEarly o failed out OutOfMemory = WritesFront out o.out
 
 -- a command ended as the outcome has it, with its work done or early
-abbrev pub Ends : {T : Type 0} → Outcome → List ℕ → Option (List ℕ) → Option (List ℕ) → Result T Ending → Type 0
-Ends o failed old new (Ok v) = (o.status ≡ 0) × (o.err ≡ []) × Appends old new o.out
-Ends o failed old new (Err e) = EndsEarly o failed old new e
+abbrev pub Ends : {T : Type 0} → Outcome → List ℕ → SinkCall → Result T Ending → Type 0
+Ends o failed out (Ok v) = (o.status ≡ 0) × (o.err ≡ []) × Writes out o.out
+Ends o failed out (Err e) = EndsEarly o failed out e
 
 -- why a command ended early, whatever is told: which count of faults rose, and which of its files failed
-abbrev pub HasEarlyCause : List (List ℕ) → ℕ → ℕ → List ℕ → ℕ → ℕ → Ending → Type 0
-HasEarlyCause files shelf_before shelf_now failed out_before out_now Usage = ⊥
-HasEarlyCause files shelf_before shelf_now failed out_before out_now (Refused n) = ⊤
-HasEarlyCause files shelf_before shelf_now failed out_before out_now (CannotRead text) = Rose shelf_before shelf_now × Contains files failed × (text.items ≡ cannot_read failed)
-HasEarlyCause files shelf_before shelf_now failed out_before out_now CannotWrite = Rose out_before out_now
-HasEarlyCause files shelf_before shelf_now failed out_before out_now OutOfMemory = ⊤
+abbrev pub HasEarlyCause : List (List ℕ) → ShelfCall → SinkCall → Ending → Type 0
+HasEarlyCause files shelf out Usage = ⊥
+HasEarlyCause files shelf out (Refused n) = ⊤
+HasEarlyCause files shelf out (CannotRead text) =
+    Rose shelf.before shelf.now × Contains files shelf.failed × (text.items ≡ cannot_read shelf.failed)
+HasEarlyCause files shelf out CannotWrite = Rose out.before out.now
+HasEarlyCause files shelf out OutOfMemory = ⊤
 
 -- the same of a command, whether it ended early or not
-abbrev pub HasEndingCause : {T : Type 0} → List (List ℕ) → ℕ → ℕ → List ℕ → ℕ → ℕ → Result T Ending → Type 0
-HasEndingCause files shelf_before shelf_now failed out_before out_now (Ok v) = ⊤
-HasEndingCause files shelf_before shelf_now failed out_before out_now (Err e) = HasEarlyCause files shelf_before shelf_now failed out_before out_now e
+abbrev pub HasEndingCause : {T : Type 0} → List (List ℕ) → ShelfCall → SinkCall → Result T Ending → Type 0
+HasEndingCause files shelf out (Ok v) = ⊤
+HasEndingCause files shelf out (Err e) = HasEarlyCause files shelf out e
+
+-- why the call's work ended so, whatever is told: only where the words are outside the grammar it is the usage, and then
+-- nothing is printed
+abbrev pub HasAnswerCause : {T : Type 0} → Option Request → ShelfCall → SinkCall → Result T Ending → Type 0
+HasAnswerCause request shelf out (Ok v) = IsSome request
+HasAnswerCause request shelf out (Err Usage) = (request ≡ None) × Writes out []
+HasAnswerCause request shelf out (Err (Refused n)) = IsSome request
+HasAnswerCause request shelf out (Err (CannotRead text)) =
+    IsSome request × Rose shelf.before shelf.now × Contains (files_asked request) shelf.failed
+    × (text.items ≡ cannot_read shelf.failed)
+HasAnswerCause request shelf out (Err CannotWrite) = IsSome request × Rose out.before out.now
+HasAnswerCause request shelf out (Err OutOfMemory) = IsSome request
+
+-- whatever was to be made of two files, the command ended at one of them, with nothing printed
+abbrev pub EndsUnmade : ((NetData → List ℕ → Outcome) → Outcome) → List ℕ → Ending → Type 0
+EndsUnmade answer failed e =
+    (work : NetData → List ℕ → Outcome) (old : Option (List ℕ)) (count : ℕ) →
+    EndsEarly (answer work) failed (still old count) e
 
 -- where a command ended because a file can't be read, this holds
 abbrev pub WhereUnread : {T : Type 0} → Result T Ending → Type 0 → Type 0
@@ -121,19 +143,15 @@ WhereUnread (Err OutOfMemory) P = ⊤
 
 -- What is said at the end.
 
--- the whole text was written, or a front of it where the count of faults rose
-abbrev pub SaysAll : List ℕ → Option (List ℕ) → Option (List ℕ) → ℕ → ℕ → Type 0
-SaysAll text old new before now = Appends old new text ⊎ (Rose before now × WritesFront old new text)
-
 -- the text was said and its status answered; or memory ran out while it was said, and 8 was answered
-abbrev pub Says : ℕ → List ℕ → Option (List ℕ) → Option (List ℕ) → ℕ → ℕ → ℕ → Type 0
-Says status text old new before now answer = ((answer ≡ status) × SaysAll text old new before now) ⊎ ((answer ≡ 8) × WritesFront old new text)
+abbrev pub Says : ℕ → List ℕ → SinkCall → ℕ → Type 0
+Says status text err answer = ((answer ≡ status) × SaysAll text err) ⊎ ((answer ≡ 8) × WritesFront err text)
 
 -- what is said of an ending, and the status that is answered
-abbrev pub Finishes : {T : Type 0} → Result T Ending → Option (List ℕ) → Option (List ℕ) → ℕ → ℕ → ℕ → Type 0
-Finishes (Ok v) old new before now answer = (answer ≡ 0) × Appends old new []
-Finishes (Err Usage) old new before now answer = Says 1 usage.text old new before now answer
-Finishes (Err (Refused n)) old new before now answer = Says n.status n.text.items old new before now answer
-Finishes (Err (CannotRead text)) old new before now answer = Says 2 text.items old new before now answer
-Finishes (Err CannotWrite) old new before now answer = Says 7 cannot_write old new before now answer
-Finishes (Err OutOfMemory) old new before now answer = Says 8 out_of_memory old new before now answer
+abbrev pub Finishes : {T : Type 0} → Result T Ending → SinkCall → ℕ → Type 0
+Finishes (Ok v) err answer = (answer ≡ 0) × Writes err []
+Finishes (Err Usage) err answer = Says 1 usage.text err answer
+Finishes (Err (Refused n)) err answer = Says n.status n.text.items err answer
+Finishes (Err (CannotRead text)) err answer = Says 2 text.items err answer
+Finishes (Err CannotWrite) err answer = Says 7 cannot_write err answer
+Finishes (Err OutOfMemory) err answer = Says 8 out_of_memory err answer

@@ -1,12 +1,14 @@
 pub mod PartNames
 pub mod CertificateText
 pub mod CertificateReading
+pub mod Calls
 pub mod Outcomes
 pub mod RefusalTexts
 pub mod FaultTexts
 pub mod Requests
 pub mod Statuses
 pub mod HowItEnds
+pub mod FilesRead
 pub mod CheckAnswer
 pub mod PrintedRuns
 pub mod RecordingTexts

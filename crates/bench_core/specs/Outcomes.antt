@@ -30,14 +30,14 @@ abbrev pub printed : List ℕ → Outcome → Outcome
 printed bytes o = record { status = o.status; out = bytes ++ o.out; err = o.err; reads = o.reads }
 
 -- this file is reached before the others
-abbrev pub reached : List ℕ → Outcome → Outcome
-reached name o = record { status = o.status; out = o.out; err = o.err; reads = name ∷ o.reads }
+abbrev pub reaching : List ℕ → Outcome → Outcome
+reaching name o = record { status = o.status; out = o.out; err = o.err; reads = name ∷ o.reads }
 
--- the step's refusal, or what comes after it
-abbrev pub after : {T : Type 0} → Result T Refusal → (T → Outcome) → Outcome
-after (Ok x) next = next x
-after (Err r) next = refused r
+-- the step's refusal, or what comes of what it gives
+abbrev pub unless_refused : {T : Type 0} → Result T Refusal → (T → Outcome) → Outcome
+unless_refused (Ok x) next = next x
+unless_refused (Err r) next = refused r
 
--- a step over a file, and what comes after it
+-- a step over a file, and what comes of what it gives
 abbrev pub reading : {T : Type 0} → List ℕ → Result T Refusal → (T → Outcome) → Outcome
-reading name step next = reached name (after step next)
+reading name step next = reaching name (unless_refused step next)

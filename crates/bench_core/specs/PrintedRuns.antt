@@ -1,4 +1,5 @@
--- A printed run: a line with the names of the outputs, and one line for each row with their values.
+-- A printed run: a line with the names of the outputs, and one line for each row with their values; `behind` is for the
+-- clauses of private functions alone.
 use Rattle.std.specs.Prelude.{ℕ, zero, suc, ℤ, List, [], ◌∷◌, ◌++◌, map}
 use Rattle.std.specs.Fmt.{signed_decimal}
 use Rattle.net_model.specs.declared.wires.WireNo.{WireNo}

@@ -1,7 +1,7 @@
--- The words that ask for a command.
+-- The words that ask for a command; `request_seen` is for the clauses of private functions alone.
 use Rattle.std.specs.Prelude.{ℕ, Bool, false, not, ◌&&◌, List, [], ◌∷◌, Option, Some, None, ◌==◌, codes, bytes_eq, if◌then◌else◌, ⊤}
 use Rattle.std.specs.Option.{option_and_then}
-use Rattle.std.specs.Io.KnownBytes.{Appends}
+use Rattle.bench_core.specs.Calls.{SinkCall, Writes}
 use Rattle.bench_core.specs.declared.commands.Command.{Command}
 use Rattle.bench_core.specs.declared.commands.Command.TheVariants.{Check, Run}
 
@@ -57,7 +57,7 @@ abbrev pub run_words : List ℕ → List ℕ → List (List ℕ)
 run_words net rec = codes "run" ∷ net ∷ rec ∷ []
 
 -- what a command has printed where a file can't be read: each built command prints nothing before all is read
-abbrev pub PrintsUnread : Option Request → Option (List ℕ) → Option (List ℕ) → Type 0
-PrintsUnread None old new = ⊤
-PrintsUnread (Some (check net cert)) old new = Appends old new []
-PrintsUnread (Some (run net rec)) old new = Appends old new []
+abbrev pub PrintsUnread : Option Request → SinkCall → Type 0
+PrintsUnread None out = ⊤
+PrintsUnread (Some (check net cert)) out = Writes out []
+PrintsUnread (Some (run net rec)) out = Writes out []

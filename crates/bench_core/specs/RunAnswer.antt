@@ -4,9 +4,9 @@ use Rattle.net_model.specs.Wires.{NetData}
 use Rattle.net_meaning.specs.Blocks.{machine}
 use Rattle.net_meaning.specs.Runs.{table}
 use Rattle.rec_csv.specs.Recordings.{Recording, RecordingFault, recording_of}
-use Rattle.bench_core.specs.Outcomes.{Outcome, done, refused, printed, reading}
+use Rattle.bench_core.specs.Outcomes.{Outcome, done, refused, printed}
 use Rattle.bench_core.specs.RecordingTexts.{recording_refused}
-use Rattle.bench_core.specs.CheckAnswer.{file_read, network_read}
+use Rattle.bench_core.specs.FilesRead.{over_two_files}
 use Rattle.bench_core.specs.PrintedRuns.{run_text}
 
 -- the most bytes of a recording
@@ -31,10 +31,6 @@ run_recording net r = printed (run_printed net r.is_headed r.rows) (recording_en
 unfoldable pub run_bytes : NetData → List ℕ → Outcome
 run_bytes net bytes = run_recording net (recording_of net.wires bytes)
 
--- the recording is read, and then run
-unfoldable pub run_network : List (List ℕ × List ℕ) → List ℕ → NetData → Outcome
-run_network files rec net = reading rec (file_read files rec recording_limit) (run_bytes net)
-
--- the network is read, and then the recording
+-- the files of the network and of the recording are read, and then the recording is run
 unfoldable pub run_answer : List (List ℕ × List ℕ) → List ℕ → List ℕ → Outcome
-run_answer files net rec = reading net (network_read files net) (run_network files rec)
+run_answer files net rec = over_two_files files net rec recording_limit run_bytes

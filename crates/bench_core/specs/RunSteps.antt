@@ -1,7 +1,6 @@
--- The steps of a run: its header, and one row after another.
-use Rattle.std.specs.Prelude.{◌≡◌, ℕ, ◌++◌, ℤ, List, [], ◌∷◌, ⊤, Option, Result, Ok, Err}
+-- The steps of a run, its header and one row after another: for the clauses of private functions alone.
+use Rattle.std.specs.Prelude.{◌≡◌, ℕ, ◌++◌, ℤ, List, [], ◌∷◌, ⊤, Result, Ok, Err}
 use Rattle.fx_io.specs.Causes.{Rose}
-use Rattle.std.specs.Io.KnownBytes.{Appends}
 use Rattle.net_model.specs.declared.wires.Wire.{Wire}
 use Rattle.net_model.specs.Wires.{NetData}
 use Rattle.net_meaning.specs.Blocks.{machine}
@@ -14,8 +13,8 @@ use Rattle.rec_csv.specs.Rows.{row_of}
 use Rattle.rec_csv.specs.Recordings.{Headed, RecordingFault, head_of, rows_below}
 use Rattle.bench_core.specs.declared.endings.Ending.{Ending}
 use Rattle.bench_core.specs.declared.endings.Ending.TheVariants.{Usage, Refused, CannotRead, CannotWrite, OutOfMemory}
+use Rattle.bench_core.specs.Calls.{SinkCall, Writes, WritesFront}
 use Rattle.bench_core.specs.Outcomes.{Outcome, Refusal, printed}
-use Rattle.bench_core.specs.HowItEnds.{WritesFront}
 use Rattle.bench_core.specs.PrintedRuns.{names_line, values_line, rows_text}
 use Rattle.bench_core.specs.RecordingTexts.{recording_refused}
 use Rattle.bench_core.specs.RunAnswer.{recording_end}
@@ -45,19 +44,25 @@ IsHeaderOf wires header = (line : List ℕ) × (header_of wires line ≡ Ok head
 
 -- the line is one more row, on which the plan was evaluated, and these are the outputs
 abbrev pub Evaluates : HeaderData → List ℕ → PlanData → PlanData → List ℤ → Type 0
-Evaluates header line old new outputs = (rows : List (List ℤ)) → IsAfter old.net rows old.kept → (values : List ℤ) × (row_of header line ≡ Ok values) × IsAfter old.net (values ∷ rows) new.kept × (outputs ≡ outputs_of old.net (values ∷ rows))
+Evaluates header line old new outputs =
+    (rows : List (List ℤ)) → IsAfter old.net rows old.kept →
+    (values : List ℤ) × (row_of header line ≡ Ok values) × IsAfter old.net (values ∷ rows) new.kept
+    × (outputs ≡ outputs_of old.net (values ∷ rows))
 
 -- it was, and the line of the outputs was appended to the text
 abbrev pub EvaluatesRow : HeaderData → List ℕ → PlanData → PlanData → List ℕ → List ℕ → Type 0
-EvaluatesRow header line old new before now = (rows : List (List ℤ)) → IsAfter old.net rows old.kept → (values : List ℤ) × (row_of header line ≡ Ok values) × IsAfter old.net (values ∷ rows) new.kept × (now ≡ before ++ values_line (outputs_of old.net (values ∷ rows)))
+EvaluatesRow header line old new before now =
+    (rows : List (List ℤ)) → IsAfter old.net rows old.kept →
+    (values : List ℤ) × (row_of header line ≡ Ok values) × IsAfter old.net (values ∷ rows) new.kept
+    × (now ≡ before ++ values_line (outputs_of old.net (values ∷ rows)))
 
 -- a refused row ended the run: what waited was written before it, or printing that stopped or memory ran out
-abbrev pub StopsAtRow : List ℕ → Refusal → Option (List ℕ) → Option (List ℕ) → ℕ → ℕ → Ending → Type 0
-StopsAtRow waiting r old new before now Usage = ⊥
-StopsAtRow waiting r old new before now (Refused n) = (n.status ≡ r.status) × (n.text.items ≡ r.text) × Appends old new waiting
-StopsAtRow waiting r old new before now (CannotRead text) = ⊥
-StopsAtRow waiting r old new before now CannotWrite = Rose before now × WritesFront old new waiting
-StopsAtRow waiting r old new before now OutOfMemory = WritesFront old new waiting
+abbrev pub StopsAtRow : List ℕ → Refusal → SinkCall → Ending → Type 0
+StopsAtRow waiting r out Usage = ⊥
+StopsAtRow waiting r out (Refused n) = (n.status ≡ r.status) × (n.text.items ≡ r.text) × Writes out waiting
+StopsAtRow waiting r out (CannotRead text) = ⊥
+StopsAtRow waiting r out CannotWrite = Rose out.before out.now × WritesFront out waiting
+StopsAtRow waiting r out OutOfMemory = WritesFront out waiting
 
 -- whatever the fault of a row, but for want of memory, the text is as before
 abbrev pub KeepsText : List ℕ → List ℕ → RowFault → Type 0

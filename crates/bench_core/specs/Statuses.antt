@@ -1,4 +1,4 @@
--- The numbers that the program ends with.
+-- The numbers that the program ends with: for the clauses of private functions alone.
 use Rattle.std.specs.Prelude.{ℕ, Bool, ◌&&◌, ◌||◌, nat_lt, IsTrue}
 
 -- a status that only the words, the files' bytes and their meaning decide: one of 3 to 6 and 9 to 12

@@ -1,14 +1,15 @@
 // The command `check NET CERT`.
-ghost use Rattle.std.specs.Prelude.{◌≡◌, ℕ, List, [], ◌∷◌, length};
+ghost use Rattle.std.specs.Prelude.{◌≡◌, ◌<◌, ◌^◌, ℕ, List, [], ◌∷◌, length, OnOk};
 ghost use Rattle.std.specs.Option.{ForSome};
+ghost use Rattle.fx_io.specs.Whole.{IsReadOut};
 ghost use Rattle.net_model.specs.Wires.{parts_of};
-ghost use Rattle.bench_core.specs.CheckAnswer.{check_answer, check_certificate, check_entries};
-ghost use Rattle.std.specs.Io.KnownBytes.{Appends};
+ghost use Rattle.bench_core.specs.Calls.{ShelfCall, Writes, sink_call, shelf_call};
+ghost use Rattle.bench_core.specs.CheckAnswer.{check_answer, check_bytes, check_entries};
 ghost use Rattle.bench_core.specs.HowItEnds.{Ends, HasEndingCause, WhereUnread};
 
 use super::endings::Ending;
 use super::refusals::print;
-use super::steps::{accept, certificate_at, network_at};
+use super::steps::{TEXT_LIMIT, accept, certificate_of_text, network_and_bytes};
 use cert_rules::Certificate;
 use fx_io::{Shelf, Sink};
 use net_model::Network;
@@ -24,35 +25,35 @@ pub(crate) fn check<S: Shelf, O: Sink>(
 ) -> Result<(), Ending>
     ensures told { ForSome (S.files shelf.old)
         (λ files. Ends (check_answer files net.now cert.now) (S.failed shelf.new)
-        (O.written out.old) (O.written out.new) result) }
+        (sink_call O.written O.faults out.old out.new) result) }
     ensures cause { HasEndingCause (net.now ∷ cert.now ∷ [])
-        (S.faults shelf.old) (S.faults shelf.new) (S.failed shelf.new)
-        (O.faults out.old) (O.faults out.new) result }
-    ensures unread { WhereUnread result (Appends (O.written out.old) (O.written out.new) []) }
+        (shelf_call S.faults S.failed shelf.old shelf.new)
+        (sink_call O.written O.faults out.old out.new) result }
+    ensures unread { WhereUnread result (Writes (sink_call O.written O.faults out.old out.new) []) }
+    ensures finished { OnOk result (IsReadOut (S.files shelf.old) (S.left shelf.new)) }
 {
-    match network_at(alloc, shelf, net) {
-        Ok(network) => certify(alloc, &network, cert, shelf, out),
+    match network_and_bytes(alloc, shelf, net, cert, TEXT_LIMIT) {
+        Ok((network, text)) => certify(alloc, &network, cert, &text, out),
         Err(ending) => Err(ending),
     }
 }
 
-// Reads the certificate of this network, and prints `accepted` where it is.
-fn certify<S: Shelf, O: Sink>(
+// Reads the certificate of this network from its text, and prints `accepted` where it is.
+fn certify<O: Sink>(
     alloc: Global,
     network: &Network,
     cert: &str,
-    shelf: &mut S,
+    text: &[u8],
     out: &mut O,
 ) -> Result<(), Ending>
-    ensures told { ForSome (S.files shelf.old)
-        (λ files. Ends (check_certificate files cert.now network.now) (S.failed shelf.new)
-        (O.written out.old) (O.written out.new) result) }
-    ensures cause { HasEndingCause (cert.now ∷ [])
-        (S.faults shelf.old) (S.faults shelf.new) (S.failed shelf.new)
-        (O.faults out.old) (O.faults out.new) result }
-    ensures unread { WhereUnread result (Appends (O.written out.old) (O.written out.new) []) }
+    requires { length text.now < 2 ^ 32 }
+    ensures told { (failed : List ℕ) → Ends (check_bytes cert.now network.now text.now) failed
+        (sink_call O.written O.faults out.old out.new) result }
+    ensures cause { (shelf : ShelfCall) → HasEndingCause [] shelf
+        (sink_call O.written O.faults out.old out.new) result }
+    ensures unread { WhereUnread result ⊥ }
 {
-    match certificate_at(alloc, shelf, cert, network) {
+    match certificate_of_text(alloc, cert, network, text) {
         Ok(certificate) => tell(alloc, network, &certificate, out),
         Err(ending) => Err(ending),
     }
@@ -68,9 +69,9 @@ fn tell<O: Sink>(
 ) -> Result<(), Ending>
     requires { length certificate.now ≡ length (parts_of network.now.wires) }
     ensures told { (failed : List ℕ) → Ends (check_entries network.now certificate.now) failed
-        (O.written out.old) (O.written out.new) result }
-    ensures cause { (before now : ℕ) (failed : List ℕ) →
-        HasEndingCause [] before now failed (O.faults out.old) (O.faults out.new) result }
+        (sink_call O.written O.faults out.old out.new) result }
+    ensures cause { (shelf : ShelfCall) → HasEndingCause [] shelf
+        (sink_call O.written O.faults out.old out.new) result }
     ensures unread { WhereUnread result ⊥ }
 {
     accept(alloc, network, certificate)?;

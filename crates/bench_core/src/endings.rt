@@ -1,5 +1,6 @@
 // How a command ends, and what is then said.
 ghost use Rattle.std.specs.Prelude.{◌≡◌};
+ghost use Rattle.bench_core.specs.Calls.{sink_call};
 ghost use Rattle.bench_core.specs.HowItEnds.{Says, Finishes};
 ghost use Rattle.bench_core.specs.RefusalTexts.{cannot_write, out_of_memory};
 
@@ -27,8 +28,7 @@ pub(crate) enum Ending {
 
 /// Says on `err` how the command ended, in one write, and gives the status.
 pub(crate) fn finish<E: Sink>(ending: &Result<(), Ending>, err: &mut E) -> u8
-    ensures { Finishes ending.now (E.written err.old) (E.written err.new)
-        (E.faults err.old) (E.faults err.new) result }
+    ensures { Finishes ending.now (sink_call E.written E.faults err.old err.new) result }
 {
     match ending {
         Ok(()) => 0,
@@ -42,8 +42,7 @@ pub(crate) fn finish<E: Sink>(ending: &Result<(), Ending>, err: &mut E) -> u8
 
 /// Says the text on `err` in one write and gives the status; 8 where memory runs out in it.
 pub(crate) fn say<E: Sink>(status: u8, text: &[u8], err: &mut E) -> u8
-    ensures { Says status text.now (E.written err.old) (E.written err.new)
-        (E.faults err.old) (E.faults err.new) result }
+    ensures { Says status text.now (sink_call E.written E.faults err.old err.new) result }
 {
     match err.write(text) {
         Ok(()) => status,

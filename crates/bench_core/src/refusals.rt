@@ -1,5 +1,6 @@
 // The lines that are said of refusals, and printing.
 ghost use Rattle.std.specs.Prelude.{◌≡◌, ◌≤◌, ◌++◌, ◌∷◌, [], IfOk};
+ghost use Rattle.bench_core.specs.Calls.{sink_call};
 ghost use Rattle.bench_core.specs.Outcomes.{line};
 ghost use Rattle.bench_core.specs.HowItEnds.{RefusesWith, Prints, IsUnread};
 ghost use Rattle.bench_core.specs.Statuses.{IsRefusalStatus};
@@ -39,8 +40,7 @@ fn line_of(alloc: Global, front: &[u8], back: &[u8]) -> Result<Vec<u8>, AllocErr
 
 /// Prints the text in one write.
 pub(crate) fn print<O: Sink>(out: &mut O, text: &[u8]) -> Result<(), Ending>
-    ensures text { Prints text.now (O.written out.old) (O.written out.new)
-        (O.faults out.old) (O.faults out.new) result }
+    ensures text { Prints text.now (sink_call O.written O.faults out.old out.new) result }
     ensures count { O.faults out.old ≤ O.faults out.new }
 {
     match out.write(text) {

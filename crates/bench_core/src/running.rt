@@ -1,14 +1,15 @@
 // The command `run NET REC`.
 ghost use Rattle.std.specs.Prelude.{◌≡◌, ◌≤◌, ◌^◌, ◌∷◌, [], ℕ, List, IfOk, OnOk};
 ghost use Rattle.std.specs.Option.{ForSome};
-ghost use Rattle.std.specs.Io.KnownBytes.{Appends};
+ghost use Rattle.fx_io.specs.Whole.{IsReadOut};
 ghost use Rattle.text_words.specs.Lines.{lines_from, lines_of};
 ghost use Rattle.net_eval.specs.After.{IsAfter};
 ghost use Rattle.rec_csv.specs.Recordings.{bad_row};
+ghost use Rattle.bench_core.specs.Calls.{ShelfCall, Writes, sink_call, shelf_call};
 ghost use Rattle.bench_core.specs.HowItEnds.{Ends, HasEndingCause, Makes, Prints, WhereUnread};
 ghost use Rattle.bench_core.specs.PrintedRuns.{names_line};
 ghost use Rattle.bench_core.specs.RecordingTexts.{recording_refused};
-ghost use Rattle.bench_core.specs.RunAnswer.{run_answer, run_network, run_bytes};
+ghost use Rattle.bench_core.specs.RunAnswer.{run_answer, run_bytes};
 ghost use Rattle.bench_core.specs.RunSteps.{IsHeaderOf, StopsAtRow, head_step, headed_answer, rows_answer};
 
 use super::endings::Ending;
@@ -16,7 +17,7 @@ use super::evaluation::Evaluation;
 use super::recording_refusals::{refuse_empty, refuse_header, refuse_row};
 use super::refusals::print;
 use super::run_lines::push_names;
-use super::steps::{network_at, read_file};
+use super::steps::network_and_bytes;
 use fx_io::{Shelf, Sink};
 use net_model::Network;
 use rec_csv::{Header, RowFault, is_blank};
@@ -39,36 +40,15 @@ pub(crate) fn run<S: Shelf, O: Sink>(
 ) -> Result<(), Ending>
     ensures told { ForSome (S.files shelf.old)
         (λ files. Ends (run_answer files net.now rec.now) (S.failed shelf.new)
-        (O.written out.old) (O.written out.new) result) }
+        (sink_call O.written O.faults out.old out.new) result) }
     ensures cause { HasEndingCause (net.now ∷ rec.now ∷ [])
-        (S.faults shelf.old) (S.faults shelf.new) (S.failed shelf.new)
-        (O.faults out.old) (O.faults out.new) result }
-    ensures unread { WhereUnread result (Appends (O.written out.old) (O.written out.new) []) }
+        (shelf_call S.faults S.failed shelf.old shelf.new)
+        (sink_call O.written O.faults out.old out.new) result }
+    ensures unread { WhereUnread result (Writes (sink_call O.written O.faults out.old out.new) []) }
+    ensures finished { OnOk result (IsReadOut (S.files shelf.old) (S.left shelf.new)) }
 {
-    match network_at(alloc, shelf, net) {
-        Ok(network) => replay_file(alloc, &network, rec, shelf, out),
-        Err(ending) => Err(ending),
-    }
-}
-
-// Reads the recording of this network, and prints the outputs of each row.
-fn replay_file<S: Shelf, O: Sink>(
-    alloc: Global,
-    network: &Network,
-    rec: &str,
-    shelf: &mut S,
-    out: &mut O,
-) -> Result<(), Ending>
-    ensures told { ForSome (S.files shelf.old)
-        (λ files. Ends (run_network files rec.now network.now) (S.failed shelf.new)
-        (O.written out.old) (O.written out.new) result) }
-    ensures cause { HasEndingCause (rec.now ∷ [])
-        (S.faults shelf.old) (S.faults shelf.new) (S.failed shelf.new)
-        (O.faults out.old) (O.faults out.new) result }
-    ensures unread { WhereUnread result (Appends (O.written out.old) (O.written out.new) []) }
-{
-    match read_file(alloc, shelf, rec, RECORDING_LIMIT) {
-        Ok(recording) => replay(alloc, network, &recording, out),
+    match network_and_bytes(alloc, shelf, net, rec, RECORDING_LIMIT) {
+        Ok((network, recording)) => replay(alloc, &network, &recording, out),
         Err(ending) => Err(ending),
     }
 }
@@ -81,9 +61,9 @@ fn replay<O: Sink>(
     out: &mut O,
 ) -> Result<(), Ending>
     ensures told { (failed : List ℕ) → Ends (run_bytes network.now recording.now) failed
-        (O.written out.old) (O.written out.new) result }
-    ensures cause { (before now : ℕ) (failed : List ℕ) →
-        HasEndingCause [] before now failed (O.faults out.old) (O.faults out.new) result }
+        (sink_call O.written O.faults out.old out.new) result }
+    ensures cause { (shelf : ShelfCall) → HasEndingCause [] shelf
+        (sink_call O.written O.faults out.old out.new) result }
     ensures unread { WhereUnread result ⊥ }
 {
     match head(alloc, network, recording) {
@@ -127,9 +107,9 @@ fn print_run<O: Sink>(
     requires { IsHeaderOf network.now.wires header.now }
     ensures told { (failed : List ℕ) →
         Ends (headed_answer network.now (record { header = header.now; below = lines_from below.now }))
-        failed (O.written out.old) (O.written out.new) result }
-    ensures cause { (before now : ℕ) (failed : List ℕ) →
-        HasEndingCause [] before now failed (O.faults out.old) (O.faults out.new) result }
+        failed (sink_call O.written O.faults out.old out.new) result }
+    ensures cause { (shelf : ShelfCall) → HasEndingCause [] shelf
+        (sink_call O.written O.faults out.old out.new) result }
     ensures unread { WhereUnread result ⊥ }
 {
     let Ok(mut text) = names_text(alloc, network) else {
@@ -183,9 +163,9 @@ fn print_rows<O: Sink>(
     requires empty { text.old.items ≡ [] }
     ensures told { (failed : List ℕ) →
         Ends (rows_answer network.now header.now [] (lines_from below.now))
-        failed (O.written out.old) (O.written out.new) result }
-    ensures cause { (before now : ℕ) (failed : List ℕ) →
-        HasEndingCause [] before now failed (O.faults out.old) (O.faults out.new) result }
+        failed (sink_call O.written O.faults out.old out.new) result }
+    ensures cause { (shelf : ShelfCall) → HasEndingCause [] shelf
+        (sink_call O.written O.faults out.old out.new) result }
     ensures unread { WhereUnread result ⊥ }
 {
     let mut number = 0;
@@ -217,7 +197,7 @@ fn stop_at<O: Sink>(
     out: &mut O,
 ) -> Ending
     ensures told { StopsAtRow text.old.items (recording_refused network.now.wires (bad_row number fault))
-        (O.written out.old) (O.written out.new) (O.faults out.old) (O.faults out.new) result }
+        (sink_call O.written O.faults out.old out.new) result }
     ensures memory { fault ≡ RowFault.OutOfMemory → (result ≡ Ending.OutOfMemory) × (O.written out.new ≡ O.written out.old) }
 {
     if fault == RowFault::OutOfMemory {
@@ -231,8 +211,8 @@ fn stop_at<O: Sink>(
 
 // Writes what waits, if anything does, in one write.
 fn flush<O: Sink>(text: &mut Vec<u8>, out: &mut O) -> Result<(), Ending>
-    ensures text { Prints text.old.items (O.written out.old) (O.written out.new)
-        (O.faults out.old) (O.faults out.new) result }
+    ensures text { Prints text.old.items
+        (sink_call O.written O.faults out.old out.new) result }
     ensures count { O.faults out.old ≤ O.faults out.new }
     ensures empty { OnOk result (text.new.items ≡ []) }
 {

@@ -1,8 +1,11 @@
 // The steps of commands: files read whole, their texts read, certificates accepted.
-ghost use Rattle.std.specs.Prelude.{◌≡◌, ◌^◌, ◌<◌, ◌≤◌, length, IfOk, vec_items};
+ghost use Rattle.std.specs.Prelude.{◌≡◌, ◌^◌, ◌≤◌, ◌<◌, ◌∷◌, [], length, Ok, IfOk, IfErr, OnOk, vec_items};
 ghost use Rattle.std.specs.Option.{ForSome};
-ghost use Rattle.bench_core.specs.HowItEnds.{Gives, Makes, HasStepCause};
-ghost use Rattle.bench_core.specs.CheckAnswer.{file_read, network_in, network_read, certificate_in, certificate_read, text_limit, acceptance};
+ghost use Rattle.fx_io.specs.Whole.{IsReadOut};
+ghost use Rattle.bench_core.specs.Calls.{SinkCall, shelf_call};
+ghost use Rattle.bench_core.specs.HowItEnds.{EndsUnmade, ReadsAs, Makes, HasEndingCause, HasStepCause};
+ghost use Rattle.bench_core.specs.FilesRead.{file_read, network_in, network_read, over_two_files};
+ghost use Rattle.bench_core.specs.CheckAnswer.{certificate_in, acceptance};
 ghost use Rattle.net_model.specs.Wires.{parts_of};
 
 use super::cert_kind::CertError;
@@ -17,20 +20,45 @@ use net_model::Network;
 use net_text::{NetError, read_net};
 use std::alloc::Global;
 
-// The most bytes of a network's text and of a certificate's text.
-const TEXT_LIMIT: usize = 0x10_0000;
+/// The most bytes of a network's text and of a certificate's text.
+pub(crate) const TEXT_LIMIT: usize = 0x10_0000;
 
-/// The network of a file.
-#[tactic(auto, using(crate::proofs::StepLaws::stops_at_first, crate::proofs::StepLaws::gives_from_parts), unfolding(crate::specs::CheckAnswer::network_read))]
-pub(crate) fn network_at<S: Shelf>(
+/// The network of a file, and all bytes of a second file, which has at most so many.
+pub(crate) fn network_and_bytes<S: Shelf>(
     alloc: Global,
     shelf: &mut S,
-    name: &str,
-) -> Result<Network, Ending>
+    net: &str,
+    other: &str,
+    limit: usize,
+) -> Result<(Network, Vec<u8>), Ending>
+    requires { limit ≤ 2 ^ 32 }
+    ensures network { ForSome (S.files shelf.old)
+        (λ files. IfOk result (λ both. network_read files net.now ≡ Ok both.0)) }
+    ensures bytes { ForSome (S.files shelf.old)
+        (λ files. IfOk result (λ both. file_read files other.now limit ≡ Ok both.1.items)) }
+    ensures stopped { ForSome (S.files shelf.old) (λ files.
+        IfErr result (EndsUnmade (over_two_files files net.now other.now limit) (S.failed shelf.new))) }
+    ensures cause { (out : SinkCall) → HasEndingCause (net.now ∷ other.now ∷ [])
+        (shelf_call S.faults S.failed shelf.old shelf.new) out result }
+    ensures finished { OnOk result (IsReadOut (S.files shelf.old) (S.left shelf.new)) }
+    ensures bound { IfOk result (λ both. length both.1.items ≤ limit) }
+{
+    match network_at(alloc, shelf, net) {
+        Ok(network) => match read_file(alloc, shelf, other, limit) {
+            Ok(bytes) => Ok((network, bytes)),
+            Err(ending) => Err(ending),
+        },
+        Err(ending) => Err(ending),
+    }
+}
+
+// The network of a file.
+#[tactic(auto, using(crate::proofs::StepLaws::stops_at_first, crate::proofs::StepLaws::gives_from_parts), unfolding(crate::specs::FilesRead::network_read))]
+fn network_at<S: Shelf>(alloc: Global, shelf: &mut S, name: &str) -> Result<Network, Ending>
     ensures told { ForSome (S.files shelf.old)
-        (λ files. Gives (λ n. n) (network_read files name.now) result) }
-    ensures cause { HasStepCause name.now (S.faults shelf.old) (S.faults shelf.new)
-        (S.failed shelf.new) result }
+        (λ files. ReadsAs (λ n. n) (network_read files name.now) result) }
+    ensures cause { HasStepCause name.now
+        (shelf_call S.faults S.failed shelf.old shelf.new) result }
     ensures files { S.files shelf.new ≡ S.files shelf.old }
 {
     match read_file(alloc, shelf, name, TEXT_LIMIT) {
@@ -40,7 +68,7 @@ pub(crate) fn network_at<S: Shelf>(
 }
 
 // The network of a file's bytes.
-#[tactic(auto, using(crate::proofs::StepLaws::stops_at_refusal), unfolding(crate::specs::CheckAnswer::network_in))]
+#[tactic(auto, using(crate::proofs::StepLaws::stops_at_refusal), unfolding(crate::specs::FilesRead::network_in))]
 fn network_of_text(alloc: Global, name: &str, text: &[u8]) -> Result<Network, Ending>
     requires { length text.now < 2 ^ 32 }
     ensures { Makes (λ n. n) (network_in name.now text.now) result }
@@ -52,30 +80,9 @@ fn network_of_text(alloc: Global, name: &str, text: &[u8]) -> Result<Network, En
     }
 }
 
-/// The certificate of a file, for this network: one entry for each part.
-#[tactic(auto, using(crate::proofs::StepLaws::stops_at_first, crate::proofs::StepLaws::gives_from_parts), unfolding(crate::specs::CheckAnswer::certificate_read))]
-pub(crate) fn certificate_at<S: Shelf>(
-    alloc: Global,
-    shelf: &mut S,
-    name: &str,
-    network: &Network,
-) -> Result<Certificate, Ending>
-    ensures told { ForSome (S.files shelf.old)
-        (λ files. Gives (λ c. c) (certificate_read files network.now.wires name.now) result) }
-    ensures cause { HasStepCause name.now (S.faults shelf.old) (S.faults shelf.new)
-        (S.failed shelf.new) result }
-    ensures files { S.files shelf.new ≡ S.files shelf.old }
-    ensures complete { IfOk result (λ cert. length cert ≡ length (parts_of network.now.wires)) }
-{
-    match read_file(alloc, shelf, name, TEXT_LIMIT) {
-        Ok(text) => certificate_of_text(alloc, name, network, &text),
-        Err(ending) => Err(ending),
-    }
-}
-
-// The certificate of a file's bytes.
+/// The certificate of a file's bytes, for this network: one entry for each part.
 #[tactic(auto, using(crate::proofs::StepLaws::stops_at_refusal), unfolding(crate::specs::CheckAnswer::certificate_in))]
-fn certificate_of_text(
+pub(crate) fn certificate_of_text(
     alloc: Global,
     name: &str,
     network: &Network,
@@ -108,8 +115,8 @@ pub(crate) fn accept(
     }
 }
 
-/// All bytes of a file, which has at most so many.
-pub(crate) fn read_file<S: Shelf>(
+// All bytes of a file, which has at most so many.
+fn read_file<S: Shelf>(
     alloc: Global,
     shelf: &mut S,
     name: &str,
@@ -117,10 +124,11 @@ pub(crate) fn read_file<S: Shelf>(
 ) -> Result<Vec<u8>, Ending>
     requires { limit ≤ 2 ^ 32 }
     ensures told { ForSome (S.files shelf.old)
-        (λ files. Gives vec_items (file_read files name.now limit) result) }
-    ensures cause { HasStepCause name.now (S.faults shelf.old) (S.faults shelf.new)
-        (S.failed shelf.new) result }
+        (λ files. ReadsAs vec_items (file_read files name.now limit) result) }
+    ensures cause { HasStepCause name.now
+        (shelf_call S.faults S.failed shelf.old shelf.new) result }
     ensures files { S.files shelf.new ≡ S.files shelf.old }
+    ensures finished { OnOk result (IsReadOut (S.files shelf.old) (S.left shelf.new)) }
     ensures bound { IfOk result (λ bytes. length bytes.items ≤ limit) }
 {
     match read_all(alloc, shelf, name, limit) {

@@ -1,5 +1,5 @@
 -- What reading a whole file answers.
-use Rattle.std.specs.Prelude.{◌≡◌, ℕ, ◌<◌, ◌≤◌, List, length, drop, ⊤, Some, None, Result, Ok, Err}
+use Rattle.std.specs.Prelude.{◌≡◌, ℕ, ◌<◌, ◌≤◌, List, [], length, drop, ⊤, Some, None, Result, Ok, Err}
 use Rattle.std.specs.declared.option.Option.{Option}
 use Rattle.fx_io.specs.Causes.{Rose}
 use Rattle.fx_io.specs.Outside.{bytes_of}
@@ -28,12 +28,17 @@ abbrev pub IsReadUpTo : Option (List (List ℕ × List ℕ)) → List ℕ → �
 IsReadUpTo None name n left = ⊤
 IsReadUpTo (Some files) name n left = left ≡ Some (drop n (bytes_of files name))
 
+-- nothing of the started file is left to read, where the files are told
+abbrev pub IsReadOut : Option (List (List ℕ × List ℕ)) → Option (List ℕ) → Type 0
+IsReadOut None left = ⊤
+IsReadOut (Some files) left = left ≡ Some []
+
 -- Ok gives all bytes, and at most the limit; `TooLong` comes only where there are more
-abbrev pub Answers : {T : Type 0} → (T → List ℕ) → Option (List (List ℕ × List ℕ)) → List ℕ → ℕ → Result T ReadAllFault → Type 0
-Answers items files name limit (Ok v) = (length (items v) ≤ limit) × IsWhole files name (items v)
-Answers items files name limit (Err TooLong) = IsTooLong files name limit
-Answers items files name limit (Err ReadFault) = ⊤
-Answers items files name limit (Err OutOfMemory) = ⊤
+abbrev pub ReadsAll : {T : Type 0} → (T → List ℕ) → Option (List (List ℕ × List ℕ)) → List ℕ → ℕ → Result T ReadAllFault → Type 0
+ReadsAll items files name limit (Ok v) = (length (items v) ≤ limit) × IsWhole files name (items v)
+ReadsAll items files name limit (Err TooLong) = IsTooLong files name limit
+ReadsAll items files name limit (Err ReadFault) = ⊤
+ReadsAll items files name limit (Err OutOfMemory) = ⊤
 
 -- `ReadFault` comes only where the faults rose, and the name that failed is then this file's; no other answer changes that name
 abbrev pub HasReadCause : {T : Type 0} → ℕ → ℕ → List ℕ → List ℕ → List ℕ → Result T ReadAllFault → Type 0

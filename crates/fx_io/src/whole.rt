@@ -2,7 +2,7 @@
 ghost use Rattle.std.specs.Prelude.{◌≡◌, ℕ, ◌+◌, ◌^◌, ◌<◌, ◌≤◌, ◌++◌, length, take, vec_items, vec_len, IfOk, OnOk};
 ghost use Rattle.std.specs.Io.KnownBytes.{ReadConsumes};
 ghost use Rattle.fx_io.specs.Causes.{HasCause};
-ghost use Rattle.fx_io.specs.Whole.{Answers, HasReadCause, IsReadUpTo};
+ghost use Rattle.fx_io.specs.Whole.{HasReadCause, IsReadOut, IsReadUpTo, ReadsAll};
 
 use super::outside::{Shelf, ShelfFault};
 use std::alloc::{AllocError, Global};
@@ -55,7 +55,8 @@ pub fn read_all<S: Shelf>(
     limit: usize,
 ) -> Result<Vec<u8>, ReadAllFault>
     requires { limit ≤ 2 ^ 32 }
-    ensures answered { Answers vec_items (S.files shelf.old) name.now limit result }
+    ensures answered { ReadsAll vec_items (S.files shelf.old) name.now limit result }
+    ensures finishes { OnOk result (IsReadOut (S.files shelf.old) (S.left shelf.new)) }
     ensures stops { result ≡ Err ReadAllFault.TooLong →
         IsReadUpTo (S.files shelf.old) name.now (limit + 1) (S.left shelf.new) }
     ensures cause { HasReadCause (S.faults shelf.old) (S.faults shelf.new) name.now

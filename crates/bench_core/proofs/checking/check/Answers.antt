@@ -1,23 +1,26 @@
-use Rattle.std.proofs.Common.{◌∙◌, ◌∷◌, []}
-use Rattle.net_model.specs.Wires.{NetData}
-use Rattle.bench_core.specs.CheckAnswer.{check_answer, check_certificate, network_read}
-use Rattle.bench_core.proofs.EndingLaws.{goes, stops, stop_causes, cause_from_later}
+use Rattle.std.proofs.Common.{◌∷◌, []}
+use Rattle.bench_core.specs.Calls.{sink_call, shelf_call}
+use Rattle.bench_core.specs.CheckAnswer.{check_answer, check_bytes}
+use Rattle.bench_core.specs.FilesRead.{text_limit}
+use Rattle.bench_core.proofs.EndingLaws.{cause_behind_files, goes_over_two, if_done}
 use Rattle.bench_core.proofs.checking.check.Goals as goal
 
 pub returns-in-Ok-clause-told : goal.returns-in-Ok-clause-told
 unfolding check_answer
 returns-in-Ok-clause-told g c x e =
-    goes (λ (n : NetData). n) c.args.net.now (network_read x c.args.net.now) (check_certificate x c.args.cert.now) _ _ _ c.in-Ok.network c.certify.result (c.in-Ok.ensures.told x e) (c.certify.ensures.told x (c.in-Ok.ensures.files ∙ e))
+    goes_over_two x c.args.net.now c.args.cert.now text_limit (check_bytes c.args.cert.now) c.in-Ok.network c.in-Ok.text.items (g.S.Shelf.failed c.network_and_bytes.new.shelf) (sink_call g.O.Sink.written g.O.Sink.faults c.args.out.now c.certify.new.out) c.certify.result (c.in-Ok.ensures.network x e) (c.in-Ok.ensures.bytes x e) (rw c.deref.ensures.value at (c.certify.ensures.told (g.S.Shelf.failed c.network_and_bytes.new.shelf)))
 
 pub returns-in-Ok-clause-cause : goal.returns-in-Ok-clause-cause
 returns-in-Ok-clause-cause g c =
-    cause_from_later (c.args.cert.now ∷ []) c.args.net.now _ _ _ _ _ _ c.certify.result c.in-Ok.ensures.cause c.certify.ensures.cause
+    cause_behind_files (c.args.net.now ∷ c.args.cert.now ∷ []) (shelf_call g.S.Shelf.faults g.S.Shelf.failed c.args.shelf.now c.network_and_bytes.new.shelf) (sink_call g.O.Sink.written g.O.Sink.faults c.args.out.now c.certify.new.out) c.certify.result (c.certify.ensures.cause (shelf_call g.S.Shelf.faults g.S.Shelf.failed c.args.shelf.now c.network_and_bytes.new.shelf))
+
+pub returns-in-Ok-clause-finished : goal.returns-in-Ok-clause-finished
+returns-in-Ok-clause-finished g c = if_done _ c.certify.result c.in-Ok.ensures.finished
 
 pub returns-in-Err-clause-told : goal.returns-in-Err-clause-told
 unfolding check_answer
 returns-in-Err-clause-told g c x e =
-    stops c.args.net.now (network_read x c.args.net.now) (check_certificate x c.args.cert.now) _ _ _ _ c.in-Err.ending (c.in-Err.ensures.told x e) c.in-Err.ensures.cause
+    c.in-Err.ensures.stopped x e (check_bytes c.args.cert.now) (g.O.Sink.written c.args.out.now) (g.O.Sink.faults c.args.out.now)
 
 pub returns-in-Err-clause-cause : goal.returns-in-Err-clause-cause
-returns-in-Err-clause-cause g c =
-    stop_causes c.args.net.now (c.args.cert.now ∷ []) _ _ _ _ _ c.in-Err.ending c.in-Err.ensures.cause
+returns-in-Err-clause-cause g c = c.in-Err.ensures.cause (sink_call g.O.Sink.written g.O.Sink.faults c.args.out.now c.args.out.now)

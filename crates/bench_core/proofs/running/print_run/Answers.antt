@@ -11,11 +11,11 @@ pub returns-in-Ok-flush-clause-told : goal.returns-in-Ok-flush-clause-told
 unfolding headed_answer
 returns-in-Ok-flush-clause-told g c failed =
     let net = c.args.network.now in
-    goes_printed (names_line net) (rows_answer net c.args.header.now [] (lines_from c.args.below.now)) failed _ _ _ c.print_rows.result (rw c.in-Ok.ensures at c.in-Ok-flush.ensures.text) (c.print_rows.ensures.told failed)
+    goes_printed (names_line net) (rows_answer net c.args.header.now [] (lines_from c.args.below.now)) failed (g.O.Sink.written c.args.out.now) (g.O.Sink.written c.flush.new.out) (g.O.Sink.written c.print_rows.new.out) (g.O.Sink.faults c.args.out.now) (g.O.Sink.faults c.flush.new.out) (g.O.Sink.faults c.print_rows.new.out) c.print_rows.result (rw c.in-Ok.ensures at c.in-Ok-flush.ensures.text) (c.print_rows.ensures.told failed)
 
 pub returns-in-Ok-flush-clause-cause : goal.returns-in-Ok-flush-clause-cause
-returns-in-Ok-flush-clause-cause g c before now failed =
-    cause_behind_printing [] before now failed _ _ _ c.print_rows.result c.in-Ok-flush.ensures.count (c.print_rows.ensures.cause before now failed)
+returns-in-Ok-flush-clause-cause g c shelf =
+    cause_behind_printing [] shelf (g.O.Sink.written c.args.out.now) (g.O.Sink.written c.flush.new.out) (g.O.Sink.written c.print_rows.new.out) (g.O.Sink.faults c.args.out.now) (g.O.Sink.faults c.flush.new.out) (g.O.Sink.faults c.print_rows.new.out) c.print_rows.result c.in-Ok-flush.ensures.count (c.print_rows.ensures.cause shelf)
 
 pub returns-clause-told : goal.returns-clause-told
 unfolding headed_answer
@@ -24,5 +24,5 @@ returns-clause-told g c failed =
     stops_printed (names_line net) (rows_answer net c.args.header.now [] (lines_from c.args.below.now)) failed _ _ _ _ c.in-Err.ending (rw c.in-Ok.ensures at c.in-Err.ensures.text)
 
 pub returns-clause-cause : goal.returns-clause-cause
-returns-clause-cause g c before now failed =
-    cause_of_printing {T = ⊤} c.in-Ok.text.items _ _ _ _ [] before now failed (Err c.in-Err.ending) c.in-Err.ensures.text
+returns-clause-cause g c shelf =
+    cause_of_printing {T = ⊤} c.in-Ok.text.items _ [] shelf (Err c.in-Err.ending) c.in-Err.ensures.text
