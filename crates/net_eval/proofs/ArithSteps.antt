@@ -1,11 +1,11 @@
 -- The steps of Mfx arithmetic: what they are given, and the values that they give.
 use Rattle.std.proofs.Common.{◌≡◌, ℕ, ◌≤◌, List, [], ◌∷◌, length, ℤ, refl, sym, ap, ap₂, ◌∙◌, arith}
 use Rattle.std.specs.Prelude.{IfSome, slice_get}
-use Rattle.fx_fraction.specs.Fraction.{whole}
+use Rattle.fx_fraction.specs.Fraction.{Fraction, whole}
 use Rattle.fx_core.specs.declared.word_type.Ty.{Ty}
 use Rattle.fx_core.specs.declared.quotient.Mode.TheVariants.{Zero}
-use Rattle.fx_core.specs.Types.{Holds, least_of, greatest_of, saturated, saturated_to}
-use Rattle.fx_core.specs.Values.{unsaturated}
+use Rattle.fx_core.specs.Types.{Holds, least_of, greatest_of}
+use Rattle.fx_core.specs.Values.{value_between}
 use Rattle.fx_routines.specs.declared.operation.ArithOp.{ArithOp}
 use Rattle.fx_routines.specs.declared.operation.ArithOp.TheVariants.{Add, Abs, MulDiv, Limit, Min, Max, RateLimiter}
 use Rattle.fx_routines.specs.declared.operation.Variant.{Variant}
@@ -51,15 +51,17 @@ quotient_reads Add sh m = refl
 quotient_reads other sh m = refl
 
 -- the value of an operation between the ends of a kind, from its arguments by number
-abbrev pub value_between : ArithOp → Kind → (ℕ → ℤ) → ℕ → ℤ
-value_between op kind m sh = saturated_to (kind_least kind) (kind_greatest kind) (unsaturated Zero (kind_least kind) (kind_greatest kind) (quotient_of op sh (λ p. whole (m p))) (arith_formula op sh (λ p. whole (m p))))
+abbrev pub arith_between : ArithOp → Kind → (ℕ → ℤ) → ℕ → ℤ
+arith_between op kind m sh =
+    let given : ℕ → Fraction = λ p. whole (m p) in
+    value_between Zero (kind_least kind) (kind_greatest kind) (quotient_of op sh given) (arith_formula op sh given)
 
 -- a routine's value on a wire of its output's type
-pub arith_value-is : (op : ArithOp) (t : Ty) (kind : Kind) (point : ℕ) (m : ℕ → ℤ) (sh : ℕ) → kind ≡ Num t point → arith_value op t (m 0) (m 1) (m 2) sh ≡ value_between op kind m sh
+pub arith_value-is : (op : ArithOp) (t : Ty) (kind : Kind) (point : ℕ) (m : ℕ → ℤ) (sh : ℕ) → kind ≡ Num t point → arith_value op t (m 0) (m 1) (m 2) sh ≡ arith_between op kind m sh
 unfolding arith_value value_in
 arith_value-is op t kind point m sh e =
-    ap₂ (λ q f. saturated t (unsaturated Zero (least_of t) (greatest_of t) q f)) (quotient_reads op sh m) (formula_reads op sh m)
-    ∙ ap (λ k. value_between op k m sh) (sym e)
+    ap₂ (value_between Zero (least_of t) (greatest_of t)) (quotient_reads op sh m) (formula_reads op sh m)
+    ∙ ap (λ k. arith_between op k m sh) (sym e)
 
 -- of other names of the same arguments
 pub arith_value-same : (op : ArithOp) (t : Ty) (x y z x' y' z' : ℤ) (sh : ℕ) → x ≡ x' → y ≡ y' → z ≡ z' → arith_value op t x y z sh ≡ arith_value op t x' y' z' sh

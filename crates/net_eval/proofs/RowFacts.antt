@@ -22,10 +22,10 @@ use Rattle.net_model.specs.declared.wires.Item.TheVariants.{Input, Const, Block 
 use Rattle.net_model.specs.declared.wires.Wire.{Wire}
 use Rattle.net_model.specs.Wires.{NetData, wire_at, argument_of, is_input, input_place, with_input, inputs_from, inputs_of}
 use Rattle.net_model.specs.Validity.{IsValid, kind_holds}
-use Rattle.net_model.proofs.ValidityFacts.{IsInKind, IsGiven, const-valid, arith-valid, scaled-valid, number_kind, point_of-valid}
+use Rattle.net_model.proofs.ValidityFacts.{IsInKind, IsGoodArgument, const-valid, arith-valid, scaled-valid, number_kind, point_of-valid}
 use Rattle.net_model.proofs.BuiltFacts.{shift_from_test}
 use Rattle.net_meaning.specs.Cells.{Cell, plain, cell_at}
-use Rattle.net_meaning.specs.Blocks.{machine, machine_value_of, formula, state_formula, quotient_of, points_of}
+use Rattle.net_meaning.specs.Blocks.{machine, machine_cell, formula, state_formula, quotient_of, points_of}
 use Rattle.net_meaning.specs.Runs.{equation, equation_of, row_of, table}
 use Rattle.net_eval.specs.declared.resolving.Step.{Step}
 use Rattle.net_eval.specs.declared.resolving.Step.TheVariants.{Read}
@@ -140,7 +140,7 @@ values_held net inputs (suc n) valid typed le k lt =
 -- ---- each step is ready
 
 -- so is an argument of its type
-given_held : (wires : List Wire) (values : List ℤ) (i : ℕ) (first : WireNo) (ty : Option Ty) (a : WireNo) → AreHeld wires values i → IsGiven wires i first ty a → IfSome ty (λ t. Holds t (value_at values a.0))
+given_held : (wires : List Wire) (values : List ℤ) (i : ℕ) (first : WireNo) (ty : Option Ty) (a : WireNo) → AreHeld wires values i → IsGoodArgument wires i first ty a → IfSome ty (λ t. Holds t (value_at values a.0))
 given_held wires values i first (Some ty) a held g =
     let k = number_kind ty (wire_at wires a.0).kind g.number in kind_held ty _ k.0 _ k.1 (held a.0 g.earlier)
 given_held wires values i first None a held g = tt
@@ -176,7 +176,7 @@ unfolding machine
 value_at-values cells k = get_or-map (λ (c : Cell ℤ). c.value) cells k (plain machine (pos 0))
 
 step_cell : (net : NetData) (inputs : List ℤ) (rows : List (List ℤ)) (past : List (List (Cell ℤ))) (cells : List (Cell ℤ)) (i : ℕ) (item : Item) → IsValid net → i < length net.wires → (wire_at net.wires i).item ≡ item → step_value (item_step net.wires i item) inputs (values cells) ≡ (equation_of machine net.wires (inputs ∷ rows) (cell_at machine (cells ∷ past)) i item).value
-unfolding equation_of machine machine_value_of formula state_formula quotient_of
+unfolding equation_of machine machine_cell formula state_formula quotient_of
 step_cell net inputs rows past cells i (Input lo hi) valid lt e = refl
 step_cell net inputs rows past cells i (Const value) valid lt e = refl
 step_cell net inputs rows past cells i (OfBlock (Arith op v x y z sh)) valid lt e =

@@ -1,11 +1,11 @@
 -- The steps of the forms with binary points: what they are given, and the values that they give.
 use Rattle.std.proofs.Common.{◌≡◌, ℕ, ℤ, refl, sym, ap, ap₂, ◌∙◌}
 use Rattle.std.specs.Prelude.{IfSome, slice_get}
-use Rattle.fx_fraction.specs.Fraction.{whole}
+use Rattle.fx_fraction.specs.Fraction.{Fraction, whole}
 use Rattle.fx_core.specs.declared.word_type.Ty.{Ty}
 use Rattle.fx_core.specs.declared.quotient.Mode.TheVariants.{Zero}
-use Rattle.fx_core.specs.Types.{Holds, least_of, greatest_of, saturated, saturated_to}
-use Rattle.fx_core.specs.Values.{unsaturated}
+use Rattle.fx_core.specs.Types.{Holds, least_of, greatest_of}
+use Rattle.fx_core.specs.Values.{value_between}
 use Rattle.fx_routines.specs.declared.operation.Variant.{Variant}
 use Rattle.mfx_arith.specs.Calls.{value_in}
 use Rattle.fx_routines.specs.declared.operation.ScaledOp.{ScaledOp}
@@ -34,11 +34,13 @@ quotient_reads other points m = refl
 
 -- the value of a form between the ends of a kind, from its arguments by number
 abbrev pub scaled_between : ScaledOp → Kind → (ℕ → ℤ) → Points → ℤ
-scaled_between op kind m points = saturated_to (kind_least kind) (kind_greatest kind) (unsaturated Zero (kind_least kind) (kind_greatest kind) (quotient_of op points (λ p. whole (m p))) (scaled_formula op points (λ p. whole (m p))))
+scaled_between op kind m points =
+    let given : ℕ → Fraction = λ p. whole (m p) in
+    value_between Zero (kind_least kind) (kind_greatest kind) (quotient_of op points given) (scaled_formula op points given)
 
 -- a form's value on a wire of its output's type
 pub scaled_value-is : (op : ScaledOp) (t : Ty) (kind : Kind) (point : ℕ) (m : ℕ → ℤ) (points : Points) → kind ≡ Num t point → scaled_value op t (m 0) (m 1) points ≡ scaled_between op kind m points
 unfolding scaled_value value_in
 scaled_value-is op t kind point m points e =
-    ap₂ (λ q f. saturated t (unsaturated Zero (least_of t) (greatest_of t) q f)) (quotient_reads op points m) (formula_reads op points m)
+    ap₂ (value_between Zero (least_of t) (greatest_of t)) (quotient_reads op points m) (formula_reads op points m)
     ∙ ap (λ k. scaled_between op k m points) (sym e)

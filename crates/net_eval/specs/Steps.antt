@@ -11,13 +11,14 @@ use Rattle.net_model.specs.declared.wires.Item.{Item}
 use Rattle.net_model.specs.declared.wires.Item.TheVariants.{Input, Const, Block as OfBlock}
 use Rattle.net_model.specs.declared.wires.Wire.{Wire}
 use Rattle.net_model.specs.Wires.{wire_at, input_place}
+use Rattle.net_model.specs.Built.{most_shift}
 use Rattle.net_meaning.specs.Blocks.{points_of}
 use Rattle.net_eval.specs.declared.resolving.Step.{Step}
 use Rattle.net_eval.specs.declared.resolving.Step.TheVariants.{Read, Fixed, Arith as ArithStep, Scaled as ScaledStep}
 
 -- the step of a block on a wire of a kind
 abbrev pub block_step : List Wire → Kind → Block → Step
-block_step wires kind (Arith op v x y z sh) = ArithStep op v x.0 y.0 z.0 sh
+block_step wires kind (Arith op v x y z shift) = ArithStep op v x.0 y.0 z.0 shift
 block_step wires kind (Scaled op v x y) = ScaledStep op v x.0 y.0 (points_of wires kind (Scaled op v x y))
 
 -- the step of wire i, by its item
@@ -43,20 +44,34 @@ value_at values i = get_or values i (pos 0)
 abbrev pub step_value : Step → List ℤ → List ℤ → ℤ
 step_value (Read place) inputs values = value_at inputs place
 step_value (Fixed value) inputs values = value
-step_value (ArithStep op v x y z sh) inputs values = arith_value op v.o (value_at values x) (value_at values y) (value_at values z) sh
-step_value (ScaledStep op v x y points) inputs values = scaled_value op v.o (value_at values x) (value_at values y) points
+step_value (ArithStep op v x y z shift) inputs values =
+    arith_value op v.o (value_at values x) (value_at values y) (value_at values z) shift
+step_value (ScaledStep op v x y points) inputs values =
+    scaled_value op v.o (value_at values x) (value_at values y) points
 
 -- the values of the first n steps
 unfoldable pub values_of : List Step → List ℤ → ℕ → List ℤ
 values_of steps inputs zero = []
 values_of steps inputs (suc n) = values_of steps inputs n ++ step_value (step_at steps n) inputs (values_of steps inputs n) ∷ []
 
--- a step's arguments are there, in the types of its routine, and a routine takes its types, its count of places and its points
+-- a step can be taken: its arguments are there, in the types of its routine, which takes its types, its shift and its points
 abbrev pub IsReady : Step → List ℤ → List ℤ → Type 0
 IsReady (Read place) inputs values = place < length inputs
 IsReady (Fixed value) inputs values = Unit {0}
-IsReady (ArithStep op v x y z sh) inputs values = (x < length values) × (y < length values) × (z < length values) × Takes op v × HasArguments op v (value_at values x) (value_at values y) (value_at values z) × (sh ≤ 15)
-IsReady (ScaledStep op v x y points) inputs values = (x < length values) × (y < length values) × HasScaledArguments op v (value_at values x) (value_at values y) × (points.a ≤ 15) × (points.b ≤ 15) × (points.c ≤ 15)
+IsReady (ArithStep op v x y z shift) inputs values =
+    (x < length values)
+    × (y < length values)
+    × (z < length values)
+    × Takes op v
+    × HasArguments op v (value_at values x) (value_at values y) (value_at values z)
+    × (shift ≤ most_shift)
+IsReady (ScaledStep op v x y points) inputs values =
+    (x < length values)
+    × (y < length values)
+    × HasScaledArguments op v (value_at values x) (value_at values y)
+    × (points.a ≤ 15)
+    × (points.b ≤ 15)
+    × (points.c ≤ 15)
 
 -- each step is ready when its turn comes
 abbrev pub AreReady : List Step → List ℤ → Type 0

@@ -32,22 +32,27 @@ fn fill(steps: &[Step], inputs: &[i64], values: &mut [i64])
     ensures { values.new ≡ values_of steps.now inputs.now (length steps.now) }
 {
     for i in 0..steps.len() {
-        let value = value_of(steps[i], inputs, &values[..i]);
+        let value = step_value(steps[i], inputs, &values[..i]);
         values[i] = value;
     }
 }
 
 /// The value of a step, from the row's inputs and the values of the earlier wires.
-fn value_of(step: Step, inputs: &[i64], values: &[i64]) -> i64
+fn step_value(step: Step, inputs: &[i64], values: &[i64]) -> i64
     requires { IsReady step inputs.now values.now }
     ensures { result ≡ step_value step inputs.now values.now }
 {
     match step {
         Step::Read { place } => inputs[place],
         Step::Fixed { value } => value,
-        Step::Arith { op, v, x, y, z, sh } => {
-            mfx_arith::call(op, v, values[x], values[y], values[z], sh)
-        }
+        Step::Arith {
+            op,
+            v,
+            x,
+            y,
+            z,
+            shift,
+        } => { mfx_arith::call(op, v, values[x], values[y], values[z], shift) }
         Step::Scaled {
             op,
             v,

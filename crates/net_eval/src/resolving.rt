@@ -28,7 +28,7 @@ pub(crate) enum Step {
         x: usize,
         y: usize,
         z: usize,
-        sh: u8,
+        shift: u8,
     },
     /// What a form with binary points makes of the values of earlier wires.
     Scaled {
@@ -86,7 +86,7 @@ fn block_step(net: &Network, wire: WireNo, block: Block) -> Step
             x: x.0 as usize,
             y: y.0 as usize,
             z: z.0 as usize,
-            sh,
+            shift: sh,
         },
         Block::Scaled { op, v, x, y } => Step::Scaled {
             op,

@@ -12,7 +12,7 @@ use Rattle.net_model.specs.declared.wires.Item.TheVariants.{Input, Block as OfBl
 use Rattle.net_model.specs.declared.wires.Wire.{Wire}
 use Rattle.mfx_scaled.specs.Formulas.{point_factor}
 use Rattle.net_meaning.specs.Cells.{cell_at}
-use Rattle.net_meaning.specs.Blocks.{formula, state_formula, quotient_of, machine, machine_state_of, machine_value_of, exact, exact_cell}
+use Rattle.net_meaning.specs.Blocks.{formula, state_formula, quotient_of, machine, machine_cell, machine_state_of, exact, exact_cell}
 use Rattle.net_meaning.specs.Runs.{equation_of, row_of, table}
 
 wires : List Wire
@@ -27,7 +27,7 @@ rows = (pos 32767 ∷ pos 24 ∷ []) ∷ (negsuc 0 ∷ negsuc 23 ∷ []) ∷ []
 
 -- the machine rounds toward zero and saturates
 machine_values : map (map (λ c. c.value)) (table machine wires rows) ≡ (pos 32767 ∷ pos 24 ∷ pos 1 ∷ pos 32767 ∷ []) ∷ (negsuc 0 ∷ negsuc 23 ∷ negsuc 0 ∷ negsuc 1 ∷ []) ∷ []
-unfolding wires rows table row_of equation_of machine machine_state_of machine_value_of formula state_formula quotient_of point_factor rounded whole over plus times
+unfolding wires rows table row_of equation_of machine machine_cell machine_state_of formula state_formula quotient_of point_factor rounded whole over plus times
 machine_values = refl
 
 -- the exact values do neither

@@ -5,7 +5,7 @@ use Rattle.std.proofs.lemmas.Bool.{cases_lt}
 use Rattle.std.proofs.lemmas.List.{get_or_past, ext_get_or}
 use Rattle.net_model.specs.declared.wires.Wire.{Wire}
 use Rattle.net_model.specs.Wires.{wire_at}
-use Rattle.net_meaning.specs.Cells.{Cell, Meaning, plain, cell_at}
+use Rattle.net_meaning.specs.Cells.{Cell, Meaning, plain, cell_at, cells_from}
 use Rattle.net_meaning.specs.Runs.{IsRun}
 use Rattle.net_meaning.specs.RunLaws.{RunsAgree}
 use Rattle.net_meaning.proofs.Arguments.{IsOrdered, arguments_earlier}
@@ -23,7 +23,7 @@ behind_last M t j i h = get_or_past (get_or t j []) i (plain M (pos 0)) h
 cell_agrees : {V : Type 0} (M : Meaning V) (wires : List Wire) → IsOrdered wires → (rows : List (List ℤ)) (t u : List (List (Cell V))) → IsRun M wires rows t → IsRun M wires rows u → (j : ℕ) → j < length rows → ((ago w : ℕ) → cell_at M t (j + suc ago) w ≡ cell_at M u (j + suc ago) w) → (i : ℕ) → i < length wires → ((k : ℕ) → k < i → cell_at M t j k ≡ cell_at M u j k) → cell_at M t j i ≡ cell_at M u j i
 cell_agrees M wires ordered rows t u p q j less older i narrow before =
     p.meets j i less narrow
-    ∙ same_equation M wires (drop j rows) (λ ago w. cell_at M t (j + ago) w) (λ ago w. cell_at M u (j + ago) w) i (wire_at wires i).item (ordered i narrow) (λ k l. subst (λ n. cell_at M t n k ≡ cell_at M u n k) (omega arith) (before k l)) older
+    ∙ same_equation M wires (drop j rows) (cells_from M t j) (cells_from M u j) i (wire_at wires i).item (ordered i narrow) (λ k l. subst (λ n. cell_at M t n k ≡ cell_at M u n k) (omega arith) (before k l)) older
     ∙ sym (q.meets j i less narrow)
 
 -- a row's cells agree where those of the older rows do

@@ -5,8 +5,9 @@ use Rattle.std.proofs.lemmas.Bool.{cases_eq}
 use Rattle.std.proofs.lemmas.List.{get_or_append_left, get_or_push, length_push}
 use Rattle.net_model.specs.declared.wires.Wire.{Wire}
 use Rattle.net_model.specs.Wires.{wire_at}
-use Rattle.net_meaning.specs.Cells.{Cell, Meaning, plain, cell_at}
-use Rattle.net_meaning.specs.Runs.{equation, row_of, table}
+use Rattle.net_meaning.specs.Cells.{Cell, Meaning, plain, cell_at, cells_from}
+use Rattle.net_meaning.specs.Runs.{HasAllInputs, equation, row_of, table}
+use Rattle.net_meaning.specs.Promises.{Keeps}
 use Rattle.net_meaning.specs.RunLaws.{TableIsRun}
 use Rattle.net_meaning.proofs.Arguments.{IsOrdered, arguments_earlier}
 use Rattle.net_meaning.proofs.Equations.{same_equation, same_readings}
@@ -56,22 +57,27 @@ table-width M wires [] j h = absurd (omega arith)
 table-width M wires (row ∷ rows) zero h = row-length M wires (row ∷ rows) (table M wires rows) (length wires)
 table-width M wires (row ∷ rows) (suc j) h = table-width M wires rows j (omega arith)
 
-table-meets : {V : Type 0} (M : Meaning V) (wires : List Wire) → IsOrdered wires → (rows : List (List ℤ)) (j i : ℕ) → j < length rows → i < length wires → cell_at M (table M wires rows) j i ≡ equation M wires (drop j rows) (λ ago w. cell_at M (table M wires rows) (j + ago) w) i
+table-meets : {V : Type 0} (M : Meaning V) (wires : List Wire) → IsOrdered wires → (rows : List (List ℤ)) (j i : ℕ) → j < length rows → i < length wires → cell_at M (table M wires rows) j i ≡ equation M wires (drop j rows) (cells_from M (table M wires rows) j) i
 unfolding table
 table-meets M wires ordered [] j i h l = absurd (omega arith)
 table-meets M wires ordered (row ∷ rows) zero i h l =
     row-meets M wires ordered (row ∷ rows) (table M wires rows) i l
-    ∙ renumbered M wires (row ∷ rows) (cell_at M (table M wires (row ∷ rows))) (λ ago w. cell_at M (table M wires (row ∷ rows)) (0 + ago) w) i (λ ago w. ap (λ n. cell_at M (table M wires (row ∷ rows)) n w) (omega arith))
+    ∙ renumbered M wires (row ∷ rows) (cell_at M (table M wires (row ∷ rows))) (cells_from M (table M wires (row ∷ rows)) 0) i (λ ago w. ap (λ n. cell_at M (table M wires (row ∷ rows)) n w) (omega arith))
 table-meets M wires ordered (row ∷ rows) (suc j) i h l =
     table-meets M wires ordered rows j i (omega arith) l
-    ∙ renumbered M wires (drop j rows) (λ ago w. cell_at M (table M wires rows) (j + ago) w) (λ ago w. cell_at M (table M wires (row ∷ rows)) (suc j + ago) w) i (λ ago w. ap (λ n. cell_at M (table M wires (row ∷ rows)) n w) (next j ago))
+    ∙ renumbered M wires (drop j rows) (cells_from M (table M wires rows) j) (cells_from M (table M wires (row ∷ rows)) (suc j)) i (λ ago w. ap (λ n. cell_at M (table M wires (row ∷ rows)) n w) (next j ago))
   where
     next : (j ago : ℕ) → suc (j + ago) ≡ suc j + ago
     next j ago = omega arith
 
 pub table_is_run : {V : Type 0} (M : Meaning V) → TableIsRun M
-table_is_run M net valid rows = record {
+table_is_run M net valid rows all = record {
+  inputs = all;
   long = table-length M net.wires rows;
   wide = table-width M net.wires rows;
   meets = table-meets M net.wires (arguments_earlier net valid) rows;
 }
+
+-- rows that keep to the declared ranges have all inputs
+pub all_inputs : (wires : List Wire) (rows : List (List ℤ)) → Keeps wires rows → HasAllInputs wires rows
+all_inputs wires rows keeps j less = (keeps j less).one_each

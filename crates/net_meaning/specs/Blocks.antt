@@ -1,10 +1,11 @@
--- The blocks: one formula each for the value, and one for the state Y where the block has one. All on fractions.
+-- The blocks: one formula each for the value, and one for the state Y where the block has one, all on fractions; and
+-- what the machine and exact fractions make of them.
 use Rattle.std.specs.Prelude.{ℕ, ℤ, pos, negsuc, List, Option, Some, None}
 use Rattle.fx_fraction.specs.Fraction.{Fraction, whole}
 use Rattle.fx_core.specs.declared.quotient.Mode.{Mode}
 use Rattle.fx_core.specs.declared.quotient.Mode.TheVariants.{Zero, Near}
 use Rattle.fx_core.specs.Types.{saturated_to}
-use Rattle.fx_core.specs.Values.{rounded_fraction, unsaturated}
+use Rattle.fx_core.specs.Values.{rounded_fraction, unsaturated, value_between}
 use Rattle.mfx_scaled.specs.declared.binary_points.Points.{Points}
 use Rattle.net_model.specs.declared.wires.Kind.{Kind}
 use Rattle.net_model.specs.declared.wires.Block.{Block}
@@ -17,26 +18,30 @@ use Rattle.net_meaning.specs.Cells.{Cell, Meaning}
 
 -- the binary points of a block's arguments and of its own wire
 abbrev pub points_of : List Wire → Kind → Block → Points
-points_of wires kind b = record { a = point_of (wire_at wires (argument_of b 0)).kind; b = point_of (wire_at wires (argument_of b 1)).kind; c = point_of kind }
+points_of wires kind b = record {
+  a = point_of (wire_at wires (argument_of b 0)).kind;
+  b = point_of (wire_at wires (argument_of b 1)).kind;
+  c = point_of kind;
+}
 
 -- the rounding of a block's library
 abbrev pub mode_of : Block → Mode
-mode_of (Arith op v x y z sh) = Zero
+mode_of (Arith op v x y z shift) = Zero
 mode_of (Scaled op v x y) = Zero
 
 -- a block's value, unrounded, from what it reads and its new state
 unfoldable pub formula : List Wire → Kind → Block → (ℕ → ℕ → Fraction) → Fraction → Fraction
-formula wires kind (Arith op v x y z sh) given state = arith_formula op sh (λ p. given p 0)
+formula wires kind (Arith op v x y z shift) given state = arith_formula op shift (λ p. given p 0)
 formula wires kind (Scaled op v x y) given state = scaled_formula op (points_of wires kind (Scaled op v x y)) (λ p. given p 0)
 
 -- the new state Y of a block, unrounded, from what it reads and its old state; none where the block has no Y
 unfoldable pub state_formula : List Wire → Block → (ℕ → ℕ → Fraction) → Fraction → Option Fraction
-state_formula wires (Arith op v x y z sh) given old = None
+state_formula wires (Arith op v x y z shift) given old = None
 state_formula wires (Scaled op v x y) given old = None
 
--- the dividend and the divisor of a block that divides
+-- the dividend and the divisor of a block that divides, from what it reads
 unfoldable pub quotient_of : List Wire → Kind → Block → (ℕ → ℕ → Fraction) → Option (Fraction × Fraction)
-quotient_of wires kind (Arith op v x y z sh) given = arith_quotient op sh (λ p. given p 0)
+quotient_of wires kind (Arith op v x y z shift) given = arith_quotient op shift (λ p. given p 0)
 quotient_of wires kind (Scaled op v x y) given = scaled_quotient op (points_of wires kind (Scaled op v x y)) (λ p. given p 0)
 
 -- the least state Y, as a raw count with 16 fractional bits
@@ -49,35 +54,48 @@ state_greatest = pos 140737488355327
 
 -- whole numbers as fractions
 abbrev pub as_fractions : (ℕ → ℕ → ℤ) → ℕ → ℕ → Fraction
-as_fractions given p ago = whole (given p ago)
+as_fractions values i j = whole (values i j)
 
 -- a state in the machine before saturation, rounded to the nearest; 0 where there is none
 abbrev pub machine_state : Option Fraction → ℤ
 machine_state None = pos 0
 machine_state (Some y) = rounded_fraction Near y
 
+-- a state in the machine
+abbrev pub saturated_state : ℤ → ℤ
+saturated_state state = saturated_to state_least state_greatest state
+
 -- an exact state; 0 where there is none
 abbrev pub exact_state : Option Fraction → Fraction
 exact_state None = whole (pos 0)
 exact_state (Some y) = y
 
--- a machine's cell, from its state and its value before saturation
-abbrev pub saturated_cell : Kind → ℤ → ℤ → Cell ℤ
-saturated_cell kind state value = record { state = saturated_to state_least state_greatest state; state_unsaturated = state; value = saturated_to (kind_least kind) (kind_greatest kind) value; value_unsaturated = value }
+-- a machine's cell, from its library's rounding, the kind of its wire, its state before saturation, and its block's
+-- quotient and formula
+unfoldable pub machine_cell : Mode → Kind → ℤ → Option (Fraction × Fraction) → Fraction → Cell ℤ
+machine_cell mode kind state quotient value = record {
+  state = saturated_state state;
+  state_unsaturated = state;
+  value = value_between mode (kind_least kind) (kind_greatest kind) quotient value;
+  value_unsaturated = unsaturated mode (kind_least kind) (kind_greatest kind) quotient value;
+}
 
 -- a block's state in the machine before saturation, from what it reads and its state a row earlier
 unfoldable pub machine_state_of : List Wire → Block → (ℕ → ℕ → ℤ) → ℤ → ℤ
 machine_state_of wires b given old = machine_state (state_formula wires b (as_fractions given) (whole old))
 
--- a block's value in the machine before saturation, from what it reads and its state at this row
-unfoldable pub machine_value_of : List Wire → Kind → Block → (ℕ → ℕ → ℤ) → ℤ → ℤ
-machine_value_of wires kind b given state = unsaturated (mode_of b) (kind_least kind) (kind_greatest kind) (quotient_of wires kind b (as_fractions given)) (formula wires kind b (as_fractions given) (whole state))
+-- a block's value in the machine before it is rounded, from what it reads and its state at this row
+abbrev pub machine_formula : List Wire → Kind → Block → (ℕ → ℕ → ℤ) → ℤ → Fraction
+machine_formula wires kind b given state = formula wires kind b (as_fractions given) (whole state)
 
 -- the machine: whole numbers, each formula rounded once and saturated
 unfoldable pub machine : Meaning ℤ
 machine = record {
   of_whole = λ z. z;
-  of_block = λ wires kind b given before. let state = machine_state_of wires b given before.state in saturated_cell kind state (machine_value_of wires kind b given (saturated_to state_least state_greatest state));
+  of_block = λ wires kind b given before.
+      let state = machine_state_of wires b given before.state in
+      let quotient = quotient_of wires kind b (as_fractions given) in
+      machine_cell (mode_of b) kind state quotient (machine_formula wires kind b given (saturated_state state));
 }
 
 -- an exact cell, which has nothing to saturate, from its state and its value
@@ -88,5 +106,7 @@ exact_cell state value = record { state = state; state_unsaturated = state; valu
 unfoldable pub exact : Meaning Fraction
 exact = record {
   of_whole = whole;
-  of_block = λ wires kind b given before. let state = exact_state (state_formula wires b given before.state) in exact_cell state (formula wires kind b given state);
+  of_block = λ wires kind b given before.
+      let state = exact_state (state_formula wires b given before.state) in
+      exact_cell state (formula wires kind b given state);
 }

@@ -1,8 +1,9 @@
 ghost use Rattle.net_meaning.specs.Blocks.{machine, exact};
 ghost use Rattle.net_meaning.specs.RunLaws.{RunsAgree, TableIsRun};
 
-/// Does nothing: its clauses say that for a valid network the table that is computed row by row and
-/// wire by wire is a run, of the machine and of the exact values.
+/// Does nothing: its clauses say that for a valid network, over rows that have one value for each
+/// input, the table that is computed row by row and wire by wire is a run, of the machine and of the
+/// exact values.
 pub fn table_is_a_run()
     ensures of_machine { TableIsRun machine }
     ensures of_exact { TableIsRun exact }

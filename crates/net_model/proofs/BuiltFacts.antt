@@ -5,7 +5,7 @@ use Rattle.fx_routines.specs.declared.operation.ArithOp.TheVariants.{MulShRight,
 use Rattle.net_model.specs.Built.{is_shift}
 
 -- a count of places is at most 15
-pub shift_from_test : (op : ArithOp) (sh : ℕ) → is_shift op sh ≡ true → sh ≤ 15
-shift_from_test MulShRight sh h = leb-true _ _ h
-shift_from_test DivShLeft sh h = leb-true _ _ h
-shift_from_test other sh h = omega (arith, eqb-true sh 0 h)
+pub shift_from_test : (op : ArithOp) (shift : ℕ) → is_shift op shift ≡ true → shift ≤ 15
+shift_from_test MulShRight shift h = leb-true _ _ h
+shift_from_test DivShLeft shift h = leb-true _ _ h
+shift_from_test other shift h = omega (arith, eqb-true shift 0 h)

@@ -1,5 +1,5 @@
 -- A draft passes its tests exactly where its network is valid.
-use Rattle.std.proofs.Common.{add-one, drop-cons, drop_of_length-le, ltb-true, ltb-false, true≢false, ◌==◌, ◌||◌, ◌≡◌, ℕ, zero, suc, ◌+◌, ◌<◌, ◌≤◌, Bool, true, false, not, ◌&&◌, List, [], ◌∷◌, ◌++◌, map, length, get_or, take, drop, nat_lt, nat_le, le-leb, refl, sym, ap, ap₂, ◌∙◌, Result, Ok, Err, bytes_eq, arith}
+use Rattle.std.proofs.Common.{add-one, drop-cons, drop_of_length-le, ltb-true, ltb-false, true≢false, ◌||◌, ◌≡◌, ℕ, zero, suc, ◌+◌, ◌<◌, ◌≤◌, Bool, true, false, not, ◌&&◌, List, [], ◌∷◌, ◌++◌, map, length, get_or, take, drop, nat_lt, nat_le, le-leb, refl, sym, ap, ap₂, ◌∙◌, Result, Ok, Err, bytes_eq, arith}
 use Rattle.std.specs.Prelude.{is_ok}
 use Rattle.std.specs.List.{list_any, list_all}
 use Rattle.std.proofs.lemmas.Bool.{lt-leb, and_parts, and_from}
@@ -10,9 +10,10 @@ use Rattle.net_model.specs.declared.network.NetKind.TheVariants.{Repeated, NotBu
 use Rattle.net_model.specs.declared.draft_checks.Fault.{Fault}
 use Rattle.net_model.specs.declared.wires.WireNo.{WireNo}
 use Rattle.net_model.specs.declared.wires.Wire.{Wire}
-use Rattle.net_model.specs.Wires.{NetData, no_wire, is_input}
-use Rattle.net_model.specs.Validity.{IsValid, is_valid, is_good_wire, is_good_kind, is_built_item, item_reads_earlier, item_agrees, item_in_range, are_good_from, are_distinct, are_distinct_numbers}
-use Rattle.net_model.specs.Faults.{are_named, has_name, wire_tested, at_wire, wires_tested, is_among, out_tested, outs_tested, has_ends, ends_tested, tested}
+use Rattle.net_model.specs.Wires.{NetData, no_wire}
+use Rattle.net_model.specs.Validity.{IsValid, is_valid, is_good_wire, is_good_kind, is_built_item, item_reads_earlier, item_agrees, item_in_range, are_good_from, are_distinct, is_among, are_distinct_outs, has_ends}
+use Rattle.net_model.specs.Faults.{are_named, has_name, wire_tested, at_wire, wires_tested, out_tested, outs_tested, ends_tested, tested}
+use Rattle.net_model.specs.Laws.{TestsDecideValidity}
 use Rattle.net_model.proofs.ValidityFacts.{conditions, name_of_good}
 use Rattle.net_model.proofs.DraftLemmas.{distinct, new_from, good_from, apart-nil, new_from-is, remains, remains-zero, remains-step, remains-end, same_name, same_name_comm, same_number, same_number_comm}
 
@@ -158,14 +159,10 @@ wires_decide wires named =
 
 -- ---- the outputs
 
-list_any-numbers : (n : ℕ) (outs : List WireNo) → list_any (λ m. n == m) (map (λ o. o.0) outs) ≡ list_any (λ o. n == o.0) outs
-list_any-numbers n [] = refl
-list_any-numbers n (o ∷ outs) = ap (λ t. (n == o.0) || t) (list_any-numbers n outs)
-
-distinct-numbers : (outs : List WireNo) → distinct same_number outs ≡ are_distinct_numbers (map (λ o. o.0) outs)
+distinct-outs : (outs : List WireNo) → distinct same_number outs ≡ are_distinct_outs outs
 unfolding distinct same_number
-distinct-numbers [] = refl
-distinct-numbers (o ∷ outs) = ap₂ (λ t u. not t && u) (sym (list_any-numbers o.0 outs)) (distinct-numbers outs)
+distinct-outs [] = refl
+distinct-outs (o ∷ outs) = ap (λ u. not (is_among outs o) && u) (distinct-outs outs)
 
 -- each output is one of so many wires
 abbrev are_below : ℕ → List WireNo → Bool
@@ -184,10 +181,10 @@ outs_pass count seen [] = refl
 outs_pass count seen (o ∷ outs) =
     regroup_out (not (is_among seen o)) (nat_lt o.0 count) (new_from same_number (seen ++ o ∷ []) outs) (are_below count outs) (outs_tested count (seen ++ o ∷ []) outs) (outs_pass count (seen ++ o ∷ []) outs)
 
-outs_decide : (count : ℕ) (outs : List WireNo) → is_ok (outs_tested count [] outs) ≡ (are_distinct_numbers (map (λ o. o.0) outs) && are_below count outs)
+outs_decide : (count : ℕ) (outs : List WireNo) → is_ok (outs_tested count [] outs) ≡ (are_distinct_outs outs && are_below count outs)
 outs_decide count outs =
     outs_pass count [] outs
-    ∙ ap (λ t. t && are_below count outs) (new_from-is same_number same_number_comm [] outs ∙ ap (λ t. t && distinct same_number outs) (apart-nil same_number outs) ∙ distinct-numbers outs)
+    ∙ ap (λ t. t && are_below count outs) (new_from-is same_number same_number_comm [] outs ∙ ap (λ t. t && distinct same_number outs) (apart-nil same_number outs) ∙ distinct-outs outs)
 
 -- ---- the whole draft
 
@@ -201,23 +198,23 @@ behind_wires i (Ok u) (Ok v) = refl
 behind_wires i (Ok u) (Err k) = refl
 behind_wires i (Err f) ends = refl
 
-regroup_all : (f d g o n i p : Bool) → ((d && (g && f)) && ((n && o) && (i && p))) ≡ (f && d && g && o && n && i && p)
-regroup_all true true true true true i p = refl
-regroup_all true true true true false i p = refl
-regroup_all true true true false true i p = refl
-regroup_all true true true false false i p = refl
-regroup_all true true false o n i p = refl
-regroup_all true false g o n i p = refl
-regroup_all false true true o n i p = refl
-regroup_all false true false o n i p = refl
-regroup_all false false g o n i p = refl
+regroup_all : (f d g o n e : Bool) → ((d && (g && f)) && ((n && o) && e)) ≡ (f && d && g && o && n && e)
+regroup_all true true true true true e = refl
+regroup_all true true true true false e = refl
+regroup_all true true true false true e = refl
+regroup_all true true true false false e = refl
+regroup_all true true false o n e = refl
+regroup_all true false g o n e = refl
+regroup_all false true true o n e = refl
+regroup_all false true false o n e = refl
+regroup_all false false g o n e = refl
 
 tested_decides : (net : NetData) → are_named net.wires ≡ true → is_ok (tested net) ≡ is_valid net
 unfolding tested ends_tested is_valid
 tested_decides net named =
     behind_wires (length net.wires) (wires_tested net.wires 0 net.wires) (ends_tested net)
     ∙ ap₂ (λ t u. t && u) (wires_decide net.wires named) (behind_outs (has_ends net.wires net.outs) (outs_tested (length net.wires) [] net.outs) ∙ ap (λ t. t && has_ends net.wires net.outs) (outs_decide (length net.wires) net.outs))
-    ∙ regroup_all (nat_le (length net.wires) 512) (are_distinct (map (λ w. w.name) net.wires)) (are_good_from net.wires 0 net.wires) (are_below (length net.wires) net.outs) (are_distinct_numbers (map (λ o. o.0) net.outs)) (list_any (λ w. is_input w.item) net.wires) (nat_lt 0 (length net.outs))
+    ∙ regroup_all (nat_le (length net.wires) 512) (are_distinct (map (λ w. w.name) net.wires)) (are_good_from net.wires 0 net.wires) (are_below (length net.wires) net.outs) (are_distinct_outs net.outs) (has_ends net.wires net.outs)
 
 -- a draft that passes its tests is valid
 pub valid_if_tested : (net : NetData) → are_named net.wires ≡ true → tested net ≡ Ok tt → IsValid net
@@ -236,3 +233,6 @@ named_from all i (w ∷ wires) h =
 
 pub tested_if_valid : (net : NetData) → IsValid net → tested net ≡ Ok tt
 tested_if_valid net valid = passed (tested net) (tested_decides net (named_from net.wires 0 net.wires (conditions net valid).good) ∙ valid)
+
+pub tests_decide : TestsDecideValidity
+tests_decide net named = (valid_if_tested net named, tested_if_valid net)

@@ -29,7 +29,7 @@ use Rattle.net_model.specs.declared.wires.Part.{Part}
 use Rattle.net_model.specs.Wires.{NetData, wire_at, no_wire, kind_least, kind_greatest, point_of, argument_of, is_input, roles_of, parts_from, parts_of, no_part, place_in, has_role, part_number}
 use Rattle.net_model.specs.Built.{is_built, is_shift}
 use Rattle.mfx_scaled.specs.Operations.{argument_types as scaled_types}
-use Rattle.net_model.specs.Validity.{is_good_kind, kind_holds, is_number_of, type_read, is_earlier, is_given, reads_earlier, are_given, is_built_item, item_reads_earlier, item_agrees, item_in_range, is_good_wire, are_good_from, are_distinct, are_distinct_numbers, is_valid, IsValid}
+use Rattle.net_model.specs.Validity.{is_good_kind, kind_holds, is_number_of, type_read, is_earlier, argument_agrees, reads_earlier, arguments_agree, is_built_item, item_reads_earlier, item_agrees, item_in_range, is_good_wire, are_good_from, are_distinct, are_distinct_outs, is_valid, IsValid}
 
 -- the conditions, one by one
 pub record Conditions (net : NetData) : Type 0 where
@@ -37,26 +37,26 @@ pub record Conditions (net : NetData) : Type 0 where
   pub distinct : are_distinct (map (λ w. w.name) net.wires) ≡ true
   pub good : are_good_from net.wires 0 net.wires ≡ true
   pub outs_there : list_all (λ o. nat_lt o.0 (length net.wires)) net.outs ≡ true
-  pub outs_distinct : are_distinct_numbers (map (λ o. o.0) net.outs) ≡ true
+  pub outs_distinct : are_distinct_outs net.outs ≡ true
   pub has_input : list_any (λ w. is_input w.item) net.wires ≡ true
   pub has_output : nat_lt 0 (length net.outs) ≡ true
 
--- seven tests that are passed together are passed one by one
-and_parts_of_seven : (a b c d e f g : Bool) → (a && b && c && d && e && f && g) ≡ true → (a ≡ true) × (b ≡ true) × (c ≡ true) × (d ≡ true) × (e ≡ true) × (f ≡ true) × (g ≡ true)
-and_parts_of_seven a b c d e f g h =
+-- six tests that are passed together are passed one by one
+and_parts_of_six : (a b c d e f : Bool) → (a && b && c && d && e && f) ≡ true → (a ≡ true) × (b ≡ true) × (c ≡ true) × (d ≡ true) × (e ≡ true) × (f ≡ true)
+and_parts_of_six a b c d e f h =
     let h1 = and_parts _ _ h in
     let h2 = and_parts _ _ h1.0 in
     let h3 = and_parts _ _ h2.0 in
     let h4 = and_parts _ _ h3.0 in
     let h5 = and_parts _ _ h4.0 in
-    let h6 = and_parts _ _ h5.0 in
-    (h6.0, h6.1, h5.1, h4.1, h3.1, h2.1, h1.1)
+    (h5.0, h5.1, h4.1, h3.1, h2.1, h1.1)
 
 pub conditions : (net : NetData) → IsValid net → Conditions net
 unfolding is_valid
 conditions net h =
-    let p = and_parts_of_seven _ _ _ _ _ _ _ h in
-    record { few = p.0; distinct = p.1; good = p.2; outs_there = p.3; outs_distinct = p.4; has_input = p.5; has_output = p.6 }
+    let p = and_parts_of_six _ _ _ _ _ _ h in
+    let ends = and_parts (list_any (λ w. is_input w.item) net.wires) (nat_lt 0 (length net.outs)) p.5 in
+    record { few = p.0; distinct = p.1; good = p.2; outs_there = p.3; outs_distinct = p.4; has_input = ends.0; has_output = ends.1 }
 
 -- a valid network has at most 512 wires
 pub length-valid : (net : NetData) → IsValid net → length net.wires ≤ 512
@@ -150,16 +150,16 @@ pub record IsArgument (wires : List Wire) (i : ℕ) (ty : Ty) (a : WireNo) : Typ
   pub number : is_number_of ty (wire_at wires a.0).kind ≡ true
 
 -- an argument is of its type; one that the routine doesn't have repeats the first
-abbrev pub IsGiven : List Wire → ℕ → WireNo → Option Ty → WireNo → Type 0
-IsGiven wires i first (Some ty) a = IsArgument wires i ty a
-IsGiven wires i first None a = a.0 ≡ first.0
+abbrev pub IsGoodArgument : List Wire → ℕ → WireNo → Option Ty → WireNo → Type 0
+IsGoodArgument wires i first (Some ty) a = IsArgument wires i ty a
+IsGoodArgument wires i first None a = a.0 ≡ first.0
 
-given : (wires : List Wire) (i : ℕ) (first : WireNo) (ty : Option Ty) (a : WireNo) → is_earlier i ty a.0 ≡ true → is_given wires first.0 ty a.0 ≡ true → IsGiven wires i first ty a
-given wires i first (Some ty) a e h = record { earlier = ltb-true _ _ e; number = h }
-given wires i first None a e h = eqb-true _ _ h
+good_argument : (wires : List Wire) (i : ℕ) (first : WireNo) (ty : Option Ty) (a : WireNo) → is_earlier i ty a.0 ≡ true → argument_agrees wires first.0 ty a.0 ≡ true → IsGoodArgument wires i first ty a
+good_argument wires i first (Some ty) a e h = record { earlier = ltb-true _ _ e; number = h }
+good_argument wires i first None a e h = eqb-true _ _ h
 
 -- each routine has a first argument, which is an earlier wire
-first_earlier : (wires : List Wire) (i : ℕ) (op : ArithOp) (v : Variant) (x : WireNo) → IsGiven wires i x (slice_get (argument_types op v) 0) x → x.0 < i
+first_earlier : (wires : List Wire) (i : ℕ) (op : ArithOp) (v : Variant) (x : WireNo) → IsGoodArgument wires i x (slice_get (argument_types op v) 0) x → x.0 < i
 first_earlier wires i MulDiv v x g = g.earlier
 first_earlier wires i Abs v x g = g.earlier
 first_earlier wires i Limit v x g = g.earlier
@@ -172,18 +172,18 @@ first_earlier wires i other v x g = g.earlier
 below_along : (a b i : ℕ) → a ≡ b → b < i → a < i
 below_along a b i e h = omega arith
 
-given_earlier : (wires : List Wire) (i : ℕ) (first : WireNo) (ty : Option Ty) (a : WireNo) → first.0 < i → IsGiven wires i first ty a → a.0 < i
-given_earlier wires i first (Some ty) a h g = g.earlier
-given_earlier wires i first None a h g = below_along _ _ _ g h
+argument_earlier : (wires : List Wire) (i : ℕ) (first : WireNo) (ty : Option Ty) (a : WireNo) → first.0 < i → IsGoodArgument wires i first ty a → a.0 < i
+argument_earlier wires i first (Some ty) a h g = g.earlier
+argument_earlier wires i first None a h g = below_along _ _ _ g h
 
 -- a block of Mfx arithmetic: its operation is built and takes its types, its arguments are good and earlier wires, and
 -- its count of places is one of the operation
 pub record IsGoodArith (wires : List Wire) (i : ℕ) (kind : Kind) (op : ArithOp) (v : Variant) (x y z : WireNo) (sh : ℕ) : Type 0 where
   pub built : is_built op ≡ true
   pub taken : Takes op v
-  pub first : IsGiven wires i x (slice_get (argument_types op v) 0) x
-  pub second : IsGiven wires i x (slice_get (argument_types op v) 1) y
-  pub third : IsGiven wires i x (slice_get (argument_types op v) 2) z
+  pub first : IsGoodArgument wires i x (slice_get (argument_types op v) 0) x
+  pub second : IsGoodArgument wires i x (slice_get (argument_types op v) 1) y
+  pub third : IsGoodArgument wires i x (slice_get (argument_types op v) 2) z
   pub earlier_x : x.0 < i
   pub earlier_y : y.0 < i
   pub earlier_z : z.0 < i
@@ -191,28 +191,28 @@ pub record IsGoodArith (wires : List Wire) (i : ℕ) (kind : Kind) (op : ArithOp
   pub output : is_number_of v.o kind ≡ true
 
 -- what the tests say of three arguments
-record AreGiven (wires : List Wire) (i : ℕ) (b : Block) (x y z : WireNo) : Type 0 where
-  pub first : IsGiven wires i x (type_read b 0) x
-  pub second : IsGiven wires i x (type_read b 1) y
-  pub third : IsGiven wires i x (type_read b 2) z
+record AreGoodArguments (wires : List Wire) (i : ℕ) (b : Block) (x y z : WireNo) : Type 0 where
+  pub first : IsGoodArgument wires i x (type_read b 0) x
+  pub second : IsGoodArgument wires i x (type_read b 1) y
+  pub third : IsGoodArgument wires i x (type_read b 2) z
 
-three_given : (wires : List Wire) (i : ℕ) (b : Block) (x y z : WireNo) → argument_of b 0 ≡ x.0 → argument_of b 1 ≡ y.0 → argument_of b 2 ≡ z.0 → reads_earlier i b ≡ true → are_given wires b ≡ true → AreGiven wires i b x y z
-three_given wires i b x y z ex ey ez early fit =
+three_arguments : (wires : List Wire) (i : ℕ) (b : Block) (x y z : WireNo) → argument_of b 0 ≡ x.0 → argument_of b 1 ≡ y.0 → argument_of b 2 ≡ z.0 → reads_earlier i b ≡ true → arguments_agree wires b ≡ true → AreGoodArguments wires i b x y z
+three_arguments wires i b x y z ex ey ez early fit =
     let e1 = and_parts _ _ early in
     let e2 = and_parts _ _ e1.0 in
     let f1 = and_parts _ _ fit in
     let f2 = and_parts _ _ f1.0 in
     record {
-      first = given wires i x (type_read b 0) x (subst (λ (a : ℕ). is_earlier i (type_read b 0) a ≡ true) ex e2.0) (subst (λ (a : ℕ). is_given wires a (type_read b 0) a ≡ true) ex f2.0);
-      second = given wires i x (type_read b 1) y (subst (λ (a : ℕ). is_earlier i (type_read b 1) a ≡ true) ey e2.1) (subst (λ (a : ℕ). is_given wires x.0 (type_read b 1) a ≡ true) ey (subst (λ (a : ℕ). is_given wires a (type_read b 1) (argument_of b 1) ≡ true) ex f2.1));
-      third = given wires i x (type_read b 2) z (subst (λ (a : ℕ). is_earlier i (type_read b 2) a ≡ true) ez e1.1) (subst (λ (a : ℕ). is_given wires x.0 (type_read b 2) a ≡ true) ez (subst (λ (a : ℕ). is_given wires a (type_read b 2) (argument_of b 2) ≡ true) ex f1.1));
+      first = good_argument wires i x (type_read b 0) x (subst (λ (a : ℕ). is_earlier i (type_read b 0) a ≡ true) ex e2.0) (subst (λ (a : ℕ). argument_agrees wires a (type_read b 0) a ≡ true) ex f2.0);
+      second = good_argument wires i x (type_read b 1) y (subst (λ (a : ℕ). is_earlier i (type_read b 1) a ≡ true) ey e2.1) (subst (λ (a : ℕ). argument_agrees wires x.0 (type_read b 1) a ≡ true) ey (subst (λ (a : ℕ). argument_agrees wires a (type_read b 1) (argument_of b 1) ≡ true) ex f2.1));
+      third = good_argument wires i x (type_read b 2) z (subst (λ (a : ℕ). is_earlier i (type_read b 2) a ≡ true) ez e1.1) (subst (λ (a : ℕ). argument_agrees wires x.0 (type_read b 2) a ≡ true) ez (subst (λ (a : ℕ). argument_agrees wires a (type_read b 2) (argument_of b 2) ≡ true) ex f1.1));
     }
 
 good_arith : (wires : List Wire) (i : ℕ) (name : List ℕ) (kind : Kind) (op : ArithOp) (v : Variant) (x y z : WireNo) (sh : ℕ) → IsGoodWire wires i name kind (OfBlock (Arith op v x y z sh)) → IsGoodArith wires i kind op v x y z sh
 good_arith wires i name kind op v x y z sh h =
     let a1 = and_parts _ _ h.agreed in
     let a2 = and_parts _ _ a1.0 in
-    let args = three_given wires i (Arith op v x y z sh) x y z refl refl refl h.earlier a2.1 in
+    let args = three_arguments wires i (Arith op v x y z sh) x y z refl refl refl h.earlier a2.1 in
     let x_below = first_earlier wires i op v x args.first in
     record {
       built = h.built;
@@ -221,8 +221,8 @@ good_arith wires i name kind op v x y z sh h =
       second = args.second;
       third = args.third;
       earlier_x = x_below;
-      earlier_y = given_earlier _ _ _ _ y x_below args.second;
-      earlier_z = given_earlier _ _ _ _ z x_below args.third;
+      earlier_y = argument_earlier _ _ _ _ y x_below args.second;
+      earlier_z = argument_earlier _ _ _ _ z x_below args.third;
       shift = h.in_range;
       output = a1.1;
     }
@@ -232,14 +232,14 @@ arith-valid net i op v x y z sh h lt e = good_arith _ _ _ _ op _ _ _ _ _ (good_i
 
 -- a block with binary points, likewise
 pub record IsGoodScaled (wires : List Wire) (i : ℕ) (kind : Kind) (op : ScaledOp) (v : Variant) (x y : WireNo) : Type 0 where
-  pub first : IsGiven wires i x (slice_get (scaled_types op v) 0) x
-  pub second : IsGiven wires i x (slice_get (scaled_types op v) 1) y
+  pub first : IsGoodArgument wires i x (slice_get (scaled_types op v) 0) x
+  pub second : IsGoodArgument wires i x (slice_get (scaled_types op v) 1) y
   pub earlier_x : x.0 < i
   pub earlier_y : y.0 < i
   pub output : is_number_of v.o kind ≡ true
 
 -- each form has a first argument
-first_scaled_earlier : (wires : List Wire) (i : ℕ) (op : ScaledOp) (v : Variant) (x : WireNo) → IsGiven wires i x (slice_get (scaled_types op v) 0) x → x.0 < i
+first_scaled_earlier : (wires : List Wire) (i : ℕ) (op : ScaledOp) (v : Variant) (x : WireNo) → IsGoodArgument wires i x (slice_get (scaled_types op v) 0) x → x.0 < i
 first_scaled_earlier wires i Convert v x g = g.earlier
 first_scaled_earlier wires i other v x g = g.earlier
 
@@ -247,13 +247,13 @@ good_scaled : (wires : List Wire) (i : ℕ) (name : List ℕ) (kind : Kind) (op 
 good_scaled wires i name kind op v x y h =
     let a1 = and_parts _ _ h.agreed in
     let a2 = and_parts _ _ a1.0 in
-    let args = three_given wires i (Scaled op v x y) x y x refl refl refl h.earlier a2.1 in
+    let args = three_arguments wires i (Scaled op v x y) x y x refl refl refl h.earlier a2.1 in
     let x_below = first_scaled_earlier wires i op v x args.first in
     record {
       first = args.first;
       second = args.second;
       earlier_x = x_below;
-      earlier_y = given_earlier _ _ _ _ y x_below args.second;
+      earlier_y = argument_earlier _ _ _ _ y x_below args.second;
       output = a1.1;
     }
 

@@ -14,8 +14,12 @@ has_shift MulShRight = true
 has_shift DivShLeft = true
 has_shift other = false
 
--- a count of places: at most 15 where the operation shifts, else 0
+-- the greatest count of places that an operation shifts by
+abbrev pub most_shift : ℕ
+most_shift = 15
+
+-- a count of places: at most that where the operation shifts, else 0
 abbrev pub is_shift : ArithOp → ℕ → Bool
-is_shift MulShRight sh = nat_le sh 15
-is_shift DivShLeft sh = nat_le sh 15
-is_shift other sh = sh == 0
+is_shift MulShRight shift = nat_le shift most_shift
+is_shift DivShLeft shift = nat_le shift most_shift
+is_shift other shift = shift == 0

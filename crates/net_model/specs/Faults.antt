@@ -1,6 +1,6 @@
 -- What is wrong with a draft: the tests of each wire in their order, then those of no wire. The first that fails names
 -- the wire and the kind.
-use Rattle.std.specs.Prelude.{ℕ, ◌+◌, Bool, not, ◌&&◌, ◌==◌, List, [], ◌∷◌, ◌++◌, length, take, nat_lt, bytes_eq, Result, Ok, Err}
+use Rattle.std.specs.Prelude.{ℕ, ◌+◌, Bool, not, ◌&&◌, List, [], ◌∷◌, ◌++◌, length, take, nat_lt, bytes_eq, Result, Ok, Err}
 use Rattle.std.specs.List.{list_any, list_all}
 use Rattle.text_words.specs.Names.{is_name}
 use Rattle.text_words.specs.Steps.{◌>>=◌, demand}
@@ -9,8 +9,9 @@ use Rattle.net_model.specs.declared.network.NetKind.TheVariants.{Repeated, NotBu
 use Rattle.net_model.specs.declared.draft_checks.Fault.{Fault}
 use Rattle.net_model.specs.declared.wires.WireNo.{WireNo}
 use Rattle.net_model.specs.declared.wires.Wire.{Wire}
-use Rattle.net_model.specs.Wires.{NetData, is_input}
+use Rattle.net_model.specs.Wires.{NetData}
 use Rattle.net_model.specs.Validity.{is_good_kind, is_built_item, item_reads_earlier, item_agrees, item_in_range, most_wires}
+pub use Rattle.net_model.specs.Validity.{is_among, has_ends}
 
 -- the name of each wire is one
 abbrev pub are_named : List Wire → Bool
@@ -42,10 +43,6 @@ wires_tested wires i (w ∷ rest) = do
   _ ← at_wire i (wire_tested wires i w)
   wires_tested wires (i + 1) rest
 
--- an output is among others
-abbrev pub is_among : List WireNo → WireNo → Bool
-is_among others o = list_any (λ m. o.0 == m.0) others
-
 -- the tests of an output below others, in a network of so many wires: it isn't one of them, and it is a wire
 unfoldable pub out_tested : ℕ → List WireNo → WireNo → Result (Unit {0}) NetKind
 out_tested count above o = do
@@ -58,10 +55,6 @@ outs_tested count above [] = Ok tt
 outs_tested count above (o ∷ rest) = do
   _ ← out_tested count above o
   outs_tested count (above ++ o ∷ []) rest
-
--- there is an input and an output
-abbrev pub has_ends : List Wire → List WireNo → Bool
-has_ends wires outs = list_any (λ w. is_input w.item) wires && nat_lt 0 (length outs)
 
 -- the tests of no wire
 unfoldable pub ends_tested : NetData → Result (Unit {0}) NetKind

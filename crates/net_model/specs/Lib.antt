@@ -6,3 +6,4 @@ pub mod Smooth
 pub mod Faults
 pub mod Drafts
 pub mod Refusals
+pub mod Laws

@@ -1,6 +1,6 @@
 -- Smooth networks: those that certificates are for.
 use Rattle.std.specs.Prelude.{◌≡◌, ℕ, ◌<◌, Bool, true, false, List, length, IsTrue}
-use Rattle.fx_routines.specs.declared.operation.ArithOp.TheVariants.{Mod}
+use Rattle.mfx_arith.specs.Operations.{is_smooth_operation}
 use Rattle.net_model.specs.declared.wires.Item.{Item}
 use Rattle.net_model.specs.declared.wires.Item.TheVariants.{Input, Const, Block as OfBlock}
 use Rattle.net_model.specs.declared.wires.Block.{Block}
@@ -10,8 +10,7 @@ use Rattle.net_model.specs.Wires.{wire_at}
 
 -- a block is smooth: it doesn't switch, look up, or take a remainder or bits
 abbrev pub is_smooth_block : Block → Bool
-is_smooth_block (Arith Mod v x y z sh) = false
-is_smooth_block (Arith other v x y z sh) = true
+is_smooth_block (Arith op v x y z shift) = is_smooth_operation op
 is_smooth_block (Scaled op v x y) = true
 
 -- so is a wire, where its block is; one without a block is
@@ -27,4 +26,6 @@ IsSmooth wires = (i : ℕ) → i < length wires → IsTrue (is_smooth (wire_at w
 -- wire i isn't smooth, and it is the first such wire
 abbrev pub IsFirstRough : List Wire → ℕ → Type 0
 IsFirstRough wires i =
-    (i < length wires) × (is_smooth (wire_at wires i).item ≡ false) × ((k : ℕ) → k < i → IsTrue (is_smooth (wire_at wires k).item))
+    (i < length wires)
+    × (is_smooth (wire_at wires i).item ≡ false)
+    × ((k : ℕ) → k < i → IsTrue (is_smooth (wire_at wires k).item))

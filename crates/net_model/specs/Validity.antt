@@ -14,6 +14,7 @@ use Rattle.net_model.specs.declared.wires.Block.TheVariants.{Arith, Scaled}
 use Rattle.net_model.specs.declared.wires.Item.{Item}
 use Rattle.net_model.specs.declared.wires.Item.TheVariants.{Input, Const, Block as OfBlock}
 use Rattle.net_model.specs.declared.wires.Wire.{Wire}
+use Rattle.net_model.specs.declared.wires.WireNo.{WireNo}
 use Rattle.mfx_scaled.specs.Operations.{argument_types as scaled_types}
 use Rattle.net_model.specs.Built.{is_built, is_shift}
 use Rattle.net_model.specs.Wires.{NetData, wire_at, kind_least, kind_greatest, argument_of, is_input}
@@ -36,27 +37,27 @@ is_number_of ty Truth = false
 
 -- networks can have the block's routine as a block
 abbrev pub is_built_block : Block → Bool
-is_built_block (Arith op v x y z sh) = is_built op
+is_built_block (Arith op v x y z shift) = is_built op
 is_built_block (Scaled op v x y) = true
 
 -- the types of the wires that a block reads, in their order
 abbrev pub types_read : Block → List Ty
-types_read (Arith op v x y z sh) = argument_types op v
+types_read (Arith op v x y z shift) = argument_types op v
 types_read (Scaled op v x y) = scaled_types op v
 
 -- there is a routine of the block's types: a row of the table of names
 abbrev pub takes_block : Block → Bool
-takes_block (Arith op v x y z sh) = takes (routine.Arith op) v
+takes_block (Arith op v x y z shift) = takes (routine.Arith op) v
 takes_block (Scaled op v x y) = takes (routine.Scaled op) v
 
 -- the type that a block gives
-abbrev pub type_given : Block → Ty
-type_given (Arith op v x y z sh) = v.o
-type_given (Scaled op v x y) = v.o
+abbrev pub output_type : Block → Ty
+output_type (Arith op v x y z shift) = v.o
+output_type (Scaled op v x y) = v.o
 
 -- the numbers that a block is given beside its wires lie in their ranges
 abbrev pub has_good_numbers : Block → Bool
-has_good_numbers (Arith op v x y z sh) = is_shift op sh
+has_good_numbers (Arith op v x y z shift) = is_shift op shift
 has_good_numbers (Scaled op v x y) = true
 
 -- ---- what a block of wire i reads
@@ -70,22 +71,29 @@ abbrev pub is_earlier : ℕ → Option Ty → ℕ → Bool
 is_earlier i (Some ty) a = nat_lt a i
 is_earlier i None a = true
 
--- an argument that the routine has is a number wire of its type; one that it doesn't have repeats the first
-abbrev pub is_given : List Wire → ℕ → Option Ty → ℕ → Bool
-is_given wires first (Some ty) a = is_number_of ty (wire_at wires a).kind
-is_given wires first None a = a == first
+-- an argument agrees with its routine: one that the routine has is a number wire of its type; one that it doesn't have
+-- repeats the first
+abbrev pub argument_agrees : List Wire → ℕ → Option Ty → ℕ → Bool
+argument_agrees wires first (Some ty) a = is_number_of ty (wire_at wires a).kind
+argument_agrees wires first None a = a == first
 
 -- each argument is an earlier wire
 abbrev pub reads_earlier : ℕ → Block → Bool
-reads_earlier i b = is_earlier i (type_read b 0) (argument_of b 0) && is_earlier i (type_read b 1) (argument_of b 1) && is_earlier i (type_read b 2) (argument_of b 2)
+reads_earlier i b =
+    is_earlier i (type_read b 0) (argument_of b 0)
+    && is_earlier i (type_read b 1) (argument_of b 1)
+    && is_earlier i (type_read b 2) (argument_of b 2)
 
--- each argument passes the test of what is given
-abbrev pub are_given : List Wire → Block → Bool
-are_given wires b = is_given wires (argument_of b 0) (type_read b 0) (argument_of b 0) && is_given wires (argument_of b 0) (type_read b 1) (argument_of b 1) && is_given wires (argument_of b 0) (type_read b 2) (argument_of b 2)
+-- each argument agrees with its routine
+abbrev pub arguments_agree : List Wire → Block → Bool
+arguments_agree wires b =
+    argument_agrees wires (argument_of b 0) (type_read b 0) (argument_of b 0)
+    && argument_agrees wires (argument_of b 0) (type_read b 1) (argument_of b 1)
+    && argument_agrees wires (argument_of b 0) (type_read b 2) (argument_of b 2)
 
 -- the types of a block, of its arguments and of its wire agree
 abbrev pub agrees : List Wire → Kind → Block → Bool
-agrees wires kind b = takes_block b && are_given wires b && is_number_of (type_given b) kind
+agrees wires kind b = takes_block b && arguments_agree wires b && is_number_of (output_type b) kind
 
 -- ---- items and wires
 
@@ -116,7 +124,12 @@ item_in_range kind (OfBlock b) = has_good_numbers b
 -- wire i, with all wires at hand
 abbrev pub is_good_wire : List Wire → ℕ → Wire → Bool
 is_good_wire wires i w =
-    is_name w.name && is_built_item w.item && item_reads_earlier i w.item && item_agrees wires w.kind w.item && is_good_kind w.kind && item_in_range w.kind w.item
+    is_name w.name
+    && is_built_item w.item
+    && item_reads_earlier i w.item
+    && item_agrees wires w.kind w.item
+    && is_good_kind w.kind
+    && item_in_range w.kind w.item
 
 -- the wires from number i on
 abbrev pub are_good_from : List Wire → ℕ → List Wire → Bool
@@ -128,10 +141,18 @@ abbrev pub are_distinct : List (List ℕ) → Bool
 are_distinct [] = true
 are_distinct (name ∷ rest) = not (list_any (bytes_eq name) rest) && are_distinct rest
 
--- no number comes twice
-abbrev pub are_distinct_numbers : List ℕ → Bool
-are_distinct_numbers [] = true
-are_distinct_numbers (n ∷ rest) = not (list_any (λ m. n == m) rest) && are_distinct_numbers rest
+-- an output is among others
+abbrev pub is_among : List WireNo → WireNo → Bool
+is_among others o = list_any (λ m. o.0 == m.0) others
+
+-- no output comes twice
+abbrev pub are_distinct_outs : List WireNo → Bool
+are_distinct_outs [] = true
+are_distinct_outs (o ∷ rest) = not (is_among rest o) && are_distinct_outs rest
+
+-- there is an input and an output
+abbrev pub has_ends : List Wire → List WireNo → Bool
+has_ends wires outs = list_any (λ w. is_input w.item) wires && nat_lt 0 (length outs)
 
 -- how many wires a network may have
 abbrev pub most_wires : ℕ
@@ -140,7 +161,13 @@ most_wires = 512
 -- a network is valid where it has at most 512 wires, their names are distinct, each is good in its place, each
 -- output is a wire and none stands twice, and there is at least one input and one output
 unfoldable pub is_valid : NetData → Bool
-is_valid net = nat_le (length net.wires) most_wires && are_distinct (map (λ w. w.name) net.wires) && are_good_from net.wires 0 net.wires && list_all (λ o. nat_lt o.0 (length net.wires)) net.outs && are_distinct_numbers (map (λ o. o.0) net.outs) && list_any (λ w. is_input w.item) net.wires && nat_lt 0 (length net.outs)
+is_valid net =
+    nat_le (length net.wires) most_wires
+    && are_distinct (map (λ w. w.name) net.wires)
+    && are_good_from net.wires 0 net.wires
+    && list_all (λ o. nat_lt o.0 (length net.wires)) net.outs
+    && are_distinct_outs net.outs
+    && has_ends net.wires net.outs
 
 -- the network passes these tests
 abbrev pub IsValid : NetData → Type 0

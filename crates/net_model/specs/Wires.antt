@@ -44,10 +44,10 @@ point_of Truth = 0
 
 -- argument number p of a block, from 0, as the number of a wire; behind the last one the first
 abbrev pub argument_of : Block → ℕ → ℕ
-argument_of (Arith op v x y z sh) zero = x.0
-argument_of (Arith op v x y z sh) (suc zero) = y.0
-argument_of (Arith op v x y z sh) (suc (suc zero)) = z.0
-argument_of (Arith op v x y z sh) (suc (suc (suc p))) = x.0
+argument_of (Arith op v x y z shift) zero = x.0
+argument_of (Arith op v x y z shift) (suc zero) = y.0
+argument_of (Arith op v x y z shift) (suc (suc zero)) = z.0
+argument_of (Arith op v x y z shift) (suc (suc (suc p))) = x.0
 argument_of (Scaled op v x y) zero = x.0
 argument_of (Scaled op v x y) (suc zero) = y.0
 argument_of (Scaled op v x y) (suc (suc p)) = x.0
@@ -107,7 +107,7 @@ is_part wire role p = (p.wire.0 == wire) && same_role p.role role
 -- the number of a part of a wire in a list of parts: how many stand before it
 abbrev pub place_in : ℕ → Role → List Part → ℕ
 place_in wire role [] = 0
-place_in wire role (p ∷ parts) = if (p.wire.0 == wire) && same_role p.role role then 0 else suc (place_in wire role parts)
+place_in wire role (p ∷ parts) = if is_part wire role p then 0 else suc (place_in wire role parts)
 
 -- a role is among those of a wire
 abbrev pub has_role : Role → List Role → Bool
@@ -116,7 +116,8 @@ has_role role (r ∷ roles) = if same_role r role then true else has_role role r
 
 -- the number of a part of a wire; none where the wire has no such part
 unfoldable pub part_number : List Wire → ℕ → Role → Option ℕ
-part_number wires wire role = if has_role role (roles_of (wire_at wires wire).item) then Some (place_in wire role (parts_of wires)) else None
+part_number wires wire role =
+    if has_role role (roles_of (wire_at wires wire).item) then Some (place_in wire role (parts_of wires)) else None
 
 -- the number of the first wire of a name; none where no wire has it
 unfoldable pub place_of : List Wire → List ℕ → Option ℕ

@@ -70,12 +70,12 @@ pub fn has_shift(op: ArithOp) -> bool
 }
 
 /// Whether a block of the operation can have the count of places.
-pub fn is_shift(op: ArithOp, sh: u8) -> bool
-    ensures { result ≡ is_shift op sh }
+pub fn is_shift(op: ArithOp, shift: u8) -> bool
+    ensures { result ≡ is_shift op shift }
 {
     match op {
-        ArithOp::MulShRight | ArithOp::DivShLeft => sh <= GREATEST_SHIFT,
-        _ => sh == 0,
+        ArithOp::MulShRight | ArithOp::DivShLeft => shift <= GREATEST_SHIFT,
+        _ => shift == 0,
     }
 }
 

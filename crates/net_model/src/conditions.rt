@@ -2,7 +2,7 @@
 
 ghost use Rattle.std.specs.Prelude.{◌≡◌};
 ghost use Rattle.net_model.specs.Wires.{argument_of, wire_at};
-ghost use Rattle.net_model.specs.Validity.{agrees, are_given, has_good_numbers, is_built_block, is_earlier, is_given, is_good_kind, is_number_of, kind_holds, reads_earlier, takes_block, type_given, type_read};
+ghost use Rattle.net_model.specs.Validity.{agrees, arguments_agree, has_good_numbers, is_built_block, is_earlier, argument_agrees, is_good_kind, is_number_of, kind_holds, reads_earlier, takes_block, output_type, type_read};
 
 use crate::built::{ArgumentTypes, argument_types, is_built, is_shift, scaled_types};
 use crate::wires::{Block, Kind, Wire, WireNo};
@@ -65,8 +65,8 @@ fn takes_block(block: Block) -> bool
 }
 
 // The type that a block gives.
-fn type_given(block: Block) -> Ty
-    ensures { result ≡ type_given block }
+fn output_type(block: Block) -> Ty
+    ensures { result ≡ output_type block }
 {
     match block {
         Block::Arith { v, .. } => v.o,
@@ -106,22 +106,22 @@ fn is_earlier(i: usize, ty: Option<Ty>, argument: WireNo) -> bool
 pub fn agrees(wires: &[Wire], kind: Kind, block: Block) -> bool
     ensures { result ≡ agrees wires.now kind block }
 {
-    takes_block(block) && are_given(wires, block) && is_number_of(type_given(block), kind)
+    takes_block(block) && arguments_agree(wires, block) && is_number_of(output_type(block), kind)
 }
 
-fn are_given(wires: &[Wire], block: Block) -> bool
-    ensures { result ≡ are_given wires.now block }
+fn arguments_agree(wires: &[Wire], block: Block) -> bool
+    ensures { result ≡ arguments_agree wires.now block }
 {
     let types = types_read(block);
     let Arguments { x, y, z } = arguments_of(block);
-    is_given(wires, x, types.x, x)
-        && is_given(wires, x, types.y, y)
-        && is_given(wires, x, types.z, z)
+    argument_agrees(wires, x, types.x, x)
+        && argument_agrees(wires, x, types.y, y)
+        && argument_agrees(wires, x, types.z, z)
 }
 
 // An argument of the type that the routine takes there; one that it doesn't have repeats the first.
-fn is_given(wires: &[Wire], first: WireNo, ty: Option<Ty>, argument: WireNo) -> bool
-    ensures { result ≡ is_given wires.now first.0 ty argument.0 }
+fn argument_agrees(wires: &[Wire], first: WireNo, ty: Option<Ty>, argument: WireNo) -> bool
+    ensures { result ≡ argument_agrees wires.now first.0 ty argument.0 }
 {
     match ty {
         Some(ty) => is_number_of(ty, kind_of(wires, argument)),

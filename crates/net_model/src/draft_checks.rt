@@ -4,8 +4,8 @@ ghost use Rattle.std.specs.List.{list_any};
 ghost use Rattle.text_words.specs.Names.{is_name};
 ghost use Rattle.text_words.specs.Steps.{demand};
 ghost use Rattle.net_model.specs.Wires.{is_input, wire_at};
-ghost use Rattle.net_model.specs.Validity.{is_built_item, item_agrees, item_in_range, item_reads_earlier, kind_holds};
-ghost use Rattle.net_model.specs.Faults.{are_named, at_wire, ends_tested, has_ends, has_name, is_among, out_tested, outs_tested, tested, wire_tested, wires_tested};
+ghost use Rattle.net_model.specs.Validity.{has_ends, is_among, is_built_item, item_agrees, item_in_range, item_reads_earlier, kind_holds};
+ghost use Rattle.net_model.specs.Faults.{are_named, at_wire, ends_tested, has_name, out_tested, outs_tested, tested, wire_tested, wires_tested};
 ghost use Rattle.net_model.specs.Drafts.{data_of};
 
 use crate::conditions::{

@@ -5,6 +5,7 @@
 mod built;
 mod conditions;
 mod draft_checks;
+mod laws;
 mod naming;
 mod network;
 mod numbering;
@@ -14,6 +15,7 @@ mod wires;
 pub use built::{ArgumentTypes, GREATEST_SHIFT, argument_types, has_shift, is_built, scaled_types};
 pub use conditions::{agrees, kind_holds};
 pub use draft_checks::{MOST_WIRES, has_ends, is_range};
+pub use laws::law_of_drafts;
 pub use naming::{Name, NameFault};
 pub use network::{Draft, NetKind, NetRefusal, Network};
 pub use wires::{Block, Item, Kind, Part, PartNo, Role, Wire, WireNo};

@@ -5,7 +5,7 @@ ghost use Rattle.net_model.specs.Smooth.{IsFirstRough, IsSmooth};
 ghost use Rattle.net_model.specs.declared.network.NetRefusal.TheVariants.{At, OutOfMemory};
 
 use crate::draft_checks::{Fault, check_draft};
-use crate::numbering::{input_numbers, name_map, part_list, place_of};
+use crate::numbering::{input_numbers, name_map, part_list, place_in};
 use crate::smoothness::first_rough;
 use crate::wires::{Part, PartNo, Role, Wire, WireNo};
 use indexmap::IndexMap;
@@ -178,7 +178,7 @@ impl Network {
         requires { w.0 < length self.now.wires }
         ensures { result ≡ option_map (λ n. record { 0 = n }) (part_number self.now.wires w.0 role) }
     {
-        place_of(self.parts(), w, role)
+        place_in(self.parts(), w, role)
     }
 
     /// Whether certificates are for the network: else the first wire whose block isn't smooth.

@@ -41,17 +41,17 @@ pub fn part_list(alloc: Global, wires: &[Wire]) -> Result<Vec<Part>, AllocError>
 }
 
 /// The number of a part in a list of parts: how many stand before it. None where it isn't there.
-pub fn place_of(parts: &[Part], wire: WireNo, role: Role) -> Option<PartNo>
+pub fn place_in(parts: &[Part], wire: WireNo, role: Role) -> Option<PartNo>
     requires { length parts.now < 2 ^ 32 }
     ensures { result ≡ option_map (λ n. record { 0 = n }) (position (is_part wire.0 role) parts.now) }
 {
-    match index_of(parts, wire, role) {
+    match index_in(parts, wire, role) {
         Some(place) => Some(PartNo(place as u32)),
         None => None,
     }
 }
 
-fn index_of(parts: &[Part], wire: WireNo, role: Role) -> Option<usize>
+fn index_in(parts: &[Part], wire: WireNo, role: Role) -> Option<usize>
     ensures place { result ≡ position (is_part wire.0 role) parts.now }
     ensures below { IfSome result (λ place. place < length parts.now) }
 {

@@ -19,7 +19,7 @@ use Rattle.net_model.specs.declared.wires.Block.TheVariants.{Arith, Scaled}
 use Rattle.net_model.specs.declared.wires.Wire.{Wire}
 use Rattle.net_model.specs.Built.{has_shift, is_shift}
 use Rattle.net_model.specs.Wires.{wire_at, place_of, argument_of}
-use Rattle.net_model.specs.Validity.{types_read, type_read, is_earlier, is_given, reads_earlier, are_given, agrees, is_number_of, takes_block, type_given, are_distinct}
+use Rattle.net_model.specs.Validity.{types_read, type_read, is_earlier, argument_agrees, reads_earlier, arguments_agree, agrees, is_number_of, takes_block, output_type, are_distinct}
 use Rattle.net_text.specs.declared.routine_word.Routine.TheVariants.{ArithOf, ScaledOf}
 use Rattle.net_text.specs.Forms.{argument_word, places_at, shift_of}
 use Rattle.net_text.specs.Printing.{argument_words, shift_words}
@@ -40,16 +40,16 @@ all_three a b c h =
 -- ---- types: what agrees among all wires agrees among those so far
 
 -- an argument that the routine has is an earlier wire, of the same kind among those so far
-given_so_far : (wires : List Wire) (i first : ℕ) (ty : Option Ty) (a : ℕ) → is_earlier i ty a ≡ true → is_given wires first ty a ≡ true → is_given (take i wires) first ty a ≡ true
+given_so_far : (wires : List Wire) (i first : ℕ) (ty : Option Ty) (a : ℕ) → is_earlier i ty a ≡ true → argument_agrees wires first ty a ≡ true → argument_agrees (take i wires) first ty a ≡ true
 given_so_far wires i first None a earlier given = given
 given_so_far wires i first (Some ty) a earlier given = ap (λ w. is_number_of ty w.kind) (wire_at-take wires i a (ltb-true a i earlier)) ∙ given
 
 pub agrees_so_far : (wires : List Wire) (i : ℕ) (kind : Kind) (b : Block) → reads_earlier i b ≡ true → agrees wires kind b ≡ true → agrees (take i wires) kind b ≡ true
 agrees_so_far wires i kind b earlier agree =
-    let parts = all_three (takes_block b) (are_given wires b) (is_number_of (type_given b) kind) agree in
+    let parts = all_three (takes_block b) (arguments_agree wires b) (is_number_of (output_type b) kind) agree in
     let before = all_three (is_earlier i (type_read b 0) (argument_of b 0)) (is_earlier i (type_read b 1) (argument_of b 1)) (is_earlier i (type_read b 2) (argument_of b 2)) earlier in
     let first = argument_of b 0 in
-    let given = all_three (is_given wires first (type_read b 0) (argument_of b 0)) (is_given wires first (type_read b 1) (argument_of b 1)) (is_given wires first (type_read b 2) (argument_of b 2)) parts.1 in
+    let given = all_three (argument_agrees wires first (type_read b 0) (argument_of b 0)) (argument_agrees wires first (type_read b 1) (argument_of b 1)) (argument_agrees wires first (type_read b 2) (argument_of b 2)) parts.1 in
     and_from _ _ (and_from _ _ parts.0 (and_from _ _ (and_from _ _ (given_so_far wires i first (type_read b 0) (argument_of b 0) before.0 given.0)
     (given_so_far wires i first (type_read b 1) (argument_of b 1) before.1 given.1))
     (given_so_far wires i first (type_read b 2) (argument_of b 2) before.2 given.2))) parts.2
@@ -70,7 +70,7 @@ names_of wires x y z = (wire_at wires x).name ∷ (wire_at wires y).name ∷ (wi
 are_read : (wires : List Wire) (i x y z : ℕ) (name kw rname : List ℕ) (types : List Ty) (places : List (List ℕ)) → are_distinct (map (λ w. w.name) wires) ≡ true → i ≤ length wires
     → 1 ≤ length types → length types ≤ 3
     → (is_earlier i (slice_get types 0) x && is_earlier i (slice_get types 1) y && is_earlier i (slice_get types 2) z) ≡ true
-    → (is_given wires x (slice_get types 0) x && is_given wires x (slice_get types 1) y && is_given wires x (slice_get types 2) z) ≡ true
+    → (argument_agrees wires x (slice_get types 0) x && argument_agrees wires x (slice_get types 1) y && argument_agrees wires x (slice_get types 2) z) ≡ true
     → AreRead wires i (routine_line name kw rname types (names_of wires x y z) places) types x y z
 are_read wires i x y z name kw rname [] places distinct within some few earlier given = absurd (omega arith)
 are_read wires i x y z name kw rname (t ∷ []) places distinct within some few earlier given =
@@ -146,7 +146,7 @@ length-shift_words DivShLeft v x y z sh = refl
 length-shift_words other v x y z sh = refl
 
 pub arith_line : (wires : List Wire) (i : ℕ) (op : ArithOp) (v : Variant) (x y z : WireNo) (sh : ℕ) (name kw rname : List ℕ) → are_distinct (map (λ w. w.name) wires) ≡ true → i ≤ length wires
-    → reads_earlier i (Arith op v x y z sh) ≡ true → are_given wires (Arith op v x y z sh) ≡ true → is_shift op sh ≡ true
+    → reads_earlier i (Arith op v x y z sh) ≡ true → arguments_agree wires (Arith op v x y z sh) ≡ true → is_shift op sh ≡ true
     → IsReadAs (take i wires) (block_line name kw rname (argument_words wires (Arith op v x y z sh) ++ shift_words (Arith op v x y z sh))) (ArithOf op v) x.0 y.0 z.0 sh
 arith_line wires i op v x y z sh name kw rname distinct within earlier given good =
     let types = argument_types op v in
@@ -167,7 +167,7 @@ arith_line wires i op v x y z sh name kw rname distinct within earlier given goo
     }
 
 pub scaled_line : (wires : List Wire) (i : ℕ) (op : ScaledOp) (v : Variant) (x y : WireNo) (name kw rname : List ℕ) → are_distinct (map (λ w. w.name) wires) ≡ true → i ≤ length wires
-    → reads_earlier i (Scaled op v x y) ≡ true → are_given wires (Scaled op v x y) ≡ true
+    → reads_earlier i (Scaled op v x y) ≡ true → arguments_agree wires (Scaled op v x y) ≡ true
     → IsReadAs (take i wires) (block_line name kw rname (argument_words wires (Scaled op v x y) ++ [])) (ScaledOf op v) x.0 y.0 x.0 0
 unfolding shift_of
 scaled_line wires i Convert v x y name kw rname distinct within earlier given =

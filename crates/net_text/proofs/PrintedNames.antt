@@ -10,7 +10,7 @@ use Rattle.std.proofs.lemmas.Slice.Eq.{bytes_eq-Decides}
 use Rattle.net_model.specs.declared.wires.WireNo.{WireNo}
 use Rattle.net_model.specs.declared.wires.Wire.{Wire}
 use Rattle.net_model.specs.Wires.{no_wire, wire_at, place_of}
-use Rattle.net_model.specs.Validity.{are_distinct, are_distinct_numbers}
+use Rattle.net_model.specs.Validity.{are_distinct, are_distinct_outs}
 use Rattle.net_text.specs.Forms.{is_wire}
 
 from_not : (b : Bool) → not b ≡ true → b ≡ false
@@ -75,23 +75,23 @@ is_wire-next wires i distinct within =
 
 -- ---- outputs
 
-no_such_number : (n : ℕ) (outs : List WireNo) (j : ℕ) (d : WireNo) → list_any (λ m. eqb n m) (map (λ o. o.0) outs) ≡ false → j < length outs → eqb n (get_or outs j d).0 ≡ false
+no_such_number : (n : ℕ) (outs : List WireNo) (j : ℕ) (d : WireNo) → list_any (λ m. eqb n m.0) outs ≡ false → j < length outs → eqb n (get_or outs j d).0 ≡ false
 no_such_number n [] j d none within = absurd (omega arith)
-no_such_number n (o ∷ outs) zero d none within = (or_parts (eqb n o.0) (list_any (λ m. eqb n m) (map (λ o. o.0) outs)) none).0
+no_such_number n (o ∷ outs) zero d none within = (or_parts (eqb n o.0) (list_any (λ m. eqb n m.0) outs) none).0
 no_such_number n (o ∷ outs) (suc j) d none within =
-    no_such_number n outs j d (or_parts (eqb n o.0) (list_any (λ m. eqb n m) (map (λ o. o.0) outs)) none).1 (omega arith)
+    no_such_number n outs j d (or_parts (eqb n o.0) (list_any (λ m. eqb n m.0) outs) none).1 (omega arith)
 
-numbers_differ : (outs : List WireNo) (k j : ℕ) (d e : WireNo) → are_distinct_numbers (map (λ o. o.0) outs) ≡ true → k < j → j < length outs → eqb (get_or outs k d).0 (get_or outs j e).0 ≡ false
+numbers_differ : (outs : List WireNo) (k j : ℕ) (d e : WireNo) → are_distinct_outs outs ≡ true → k < j → j < length outs → eqb (get_or outs k d).0 (get_or outs j e).0 ≡ false
 numbers_differ [] k j d e distinct before within = absurd (omega arith)
 numbers_differ (o ∷ outs) k zero d e distinct before within = absurd (omega arith)
 numbers_differ (o ∷ outs) zero (suc j) d e distinct before within =
-    let others = list_any (λ m. eqb o.0 m) (map (λ o. o.0) outs) in
-    no_such_number o.0 outs j e (from_not others (and_parts (not others) (are_distinct_numbers (map (λ o. o.0) outs)) distinct).0) (omega arith)
+    let others = list_any (λ m. eqb o.0 m.0) outs in
+    no_such_number o.0 outs j e (from_not others (and_parts (not others) (are_distinct_outs outs) distinct).0) (omega arith)
 numbers_differ (o ∷ outs) (suc k) (suc j) d e distinct before within =
-    numbers_differ outs k j d e (and_parts (not (list_any (λ m. eqb o.0 m) (map (λ o. o.0) outs))) (are_distinct_numbers (map (λ o. o.0) outs)) distinct).1 (omega arith) (omega arith)
+    numbers_differ outs k j d e (and_parts (not (list_any (λ m. eqb o.0 m.0) outs)) (are_distinct_outs outs) distinct).1 (omega arith) (omega arith)
 
 -- the next output is none of those so far
-pub next_output_is_new : (outs : List WireNo) (j : ℕ) (e : WireNo) → are_distinct_numbers (map (λ o. o.0) outs) ≡ true → j < length outs → list_any (λ o. eqb o.0 (get_or outs j e).0) (take j outs) ≡ false
+pub next_output_is_new : (outs : List WireNo) (j : ℕ) (e : WireNo) → are_distinct_outs outs ≡ true → j < length outs → list_any (λ o. eqb o.0 (get_or outs j e).0) (take j outs) ≡ false
 next_output_is_new outs j e distinct within =
     let long = length-take-le j outs (omega arith) in
     list_any_none (λ o. eqb o.0 (get_or outs j e).0) (take j outs) (λ k d inside.

@@ -18,7 +18,7 @@ use Rattle.net_model.specs.declared.wires.Item.{Item}
 use Rattle.net_model.specs.declared.wires.Item.TheVariants.{Input, Const, Block as OfBlock}
 use Rattle.net_model.specs.declared.wires.Wire.{Wire}
 use Rattle.net_model.specs.Wires.{NetData, no_wire, wire_at, argument_of}
-use Rattle.net_model.specs.Validity.{is_good_kind, kind_holds, is_built_item, takes_block, are_given, is_number_of, type_given, types_read, type_read, is_earlier, is_given, reads_earlier, has_good_numbers, item_reads_earlier, item_agrees, item_in_range, is_good_wire, IsValid}
+use Rattle.net_model.specs.Validity.{is_good_kind, kind_holds, is_built_item, takes_block, arguments_agree, is_number_of, output_type, types_read, type_read, is_earlier, argument_agrees, reads_earlier, has_good_numbers, item_reads_earlier, item_agrees, item_in_range, is_good_wire, IsValid}
 use Rattle.net_model.proofs.ValidityFacts.{conditions, length-valid, good_wire-valid}
 use Rattle.net_text.specs.Text.{network_of}
 use Rattle.net_text.specs.Printing.{argument_words, shift_words, wire_words, out_words, text_of}
@@ -35,7 +35,7 @@ first_is_earlier i [] x some earlier = absurd (omega arith)
 first_is_earlier i (t ∷ types) x some earlier = ltb-true x i earlier
 
 -- an argument is an earlier wire; so is one that the routine doesn't have, since it repeats the first
-argument_is_earlier : (wires : List Wire) (i x : ℕ) (ty : Option Ty) (a : ℕ) → x < i → is_earlier i ty a ≡ true → is_given wires x ty a ≡ true → a < i
+argument_is_earlier : (wires : List Wire) (i x : ℕ) (ty : Option Ty) (a : ℕ) → x < i → is_earlier i ty a ≡ true → argument_agrees wires x ty a ≡ true → a < i
 argument_is_earlier wires i x (Some ty) a first earlier given = ltb-true a i earlier
 argument_is_earlier wires i x None a first earlier given = let same = eqb-true a x given in omega arith
 
@@ -44,11 +44,11 @@ list_all-take p zero xs all = refl
 list_all-take p (suc n) [] all = refl
 list_all-take p (suc n) (x ∷ xs) all = let parts = and_parts (p x) (list_all p xs) all in and_from _ _ parts.0 (list_all-take p n xs parts.1)
 
-argument_words_good : (wires : List Wire) (i : ℕ) (b : Block) → ((a : ℕ) → a < i → is_name (wire_at wires a).name ≡ true) → reads_earlier i b ≡ true → are_given wires b ≡ true → are_words (argument_words wires b) ≡ true
+argument_words_good : (wires : List Wire) (i : ℕ) (b : Block) → ((a : ℕ) → a < i → is_name (wire_at wires a).name ≡ true) → reads_earlier i b ≡ true → arguments_agree wires b ≡ true → are_words (argument_words wires b) ≡ true
 argument_words_good wires i b named earlier given =
     let x = argument_of b 0 in
     let before = all_three (is_earlier i (type_read b 0) x) (is_earlier i (type_read b 1) (argument_of b 1)) (is_earlier i (type_read b 2) (argument_of b 2)) earlier in
-    let same = all_three (is_given wires x (type_read b 0) x) (is_given wires x (type_read b 1) (argument_of b 1)) (is_given wires x (type_read b 2) (argument_of b 2)) given in
+    let same = all_three (argument_agrees wires x (type_read b 0) x) (argument_agrees wires x (type_read b 1) (argument_of b 1)) (argument_agrees wires x (type_read b 2) (argument_of b 2)) given in
     let first = first_is_earlier i (types_read b) x (few_types_read b).0 before.0 in
     let word : (a : ℕ) → a < i → is_word (wire_at wires a).name ≡ true = λ a lt. is_word-name (wire_at wires a).name (named a lt) in
     list_all-take is_word (length (types_read b)) (map (λ p. (wire_at wires (argument_of b p)).name) (0 ∷ 1 ∷ 2 ∷ []))
@@ -74,7 +74,7 @@ wire_words_good wires i name kind (Input lo hi) named here good earlier agree ra
 wire_words_good wires i name kind (Const value) named here good earlier agree range =
     and_from _ _ (is_word-name name here) (and_from _ _ (is_word-kind_word kind good) (and_from _ _ (is_word-signed_decimal value (kind_holds-short kind value range)) refl))
 wire_words_good wires i name kind (OfBlock b) named here good earlier agree range =
-    let typed = all_three (takes_block b) (are_given wires b) (is_number_of (type_given b) kind) agree in
+    let typed = all_three (takes_block b) (arguments_agree wires b) (is_number_of (output_type b) kind) agree in
     let rest = list_all-append is_word (argument_words wires b) (shift_words b) ∙ and_from _ _ (argument_words_good wires i b named earlier typed.1) (shift_words_good b range) in
     and_from _ _ (is_word-name name here) (and_from _ _ (is_word-kind_word kind good) (and_from _ _ (is_word-block_name b typed.0) rest))
 
@@ -84,7 +84,7 @@ name_is_read : (wires : List Wire) (kind : Kind) (item : Item) → is_built_item
 name_is_read wires kind (Input lo hi) built agree = tt
 name_is_read wires kind (Const value) built agree = tt
 name_is_read wires kind (OfBlock b) built agree =
-    routine_at-block_name b built (all_three (takes_block b) (are_given wires b) (is_number_of (type_given b) kind) agree).0
+    routine_at-block_name b built (all_three (takes_block b) (arguments_agree wires b) (is_number_of (output_type b) kind) agree).0
 
 -- the tests of a wire, one by one
 record IsGoodWire (wires : List Wire) (i : ℕ) (w : Wire) : Type 0 where

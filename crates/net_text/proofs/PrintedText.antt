@@ -8,7 +8,7 @@ use Rattle.text_words.proofs.PrintedLines.{words_of-spaced, lines_of-word_lines}
 use Rattle.net_model.specs.declared.wires.WireNo.{WireNo}
 use Rattle.net_model.specs.declared.wires.Wire.{Wire}
 use Rattle.net_model.specs.Wires.{NetData, no_wire, wire_at, place_of, is_input}
-use Rattle.net_model.specs.Validity.{are_distinct, are_distinct_numbers}
+use Rattle.net_model.specs.Validity.{are_distinct, are_distinct_outs}
 use Rattle.net_text.specs.Text.{after_out, after_line, ended, walked, from_head, network_of}
 use Rattle.net_text.specs.Printing.{wire_words, out_words, words_printed, text_of}
 use Rattle.net_text.proofs.PrintedNames.{place_of-wire_at, is_wire-next, next_output_is_new}
@@ -71,7 +71,7 @@ no_out = record { 0 = 0 }
 -- outputs that are wires, of which none stands twice
 pub record AreOutputs (wires : List Wire) (outs : List WireNo) : Type 0 where
   pub there : (j : ℕ) → j < length outs → (get_or outs j no_out).0 < length wires
-  pub distinct : are_distinct_numbers (map (λ o. o.0) outs) ≡ true
+  pub distinct : are_distinct_outs outs ≡ true
   pub words : (j : ℕ) → j < length outs → are_words (out_words wires (get_or outs j no_out)) ≡ true
 
 place_of-output : (wires : List Wire) (a : ℕ) → AreReadable wires → a < length wires → place_of wires (wire_at wires a).name ≡ Some a

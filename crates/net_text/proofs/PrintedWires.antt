@@ -14,7 +14,7 @@ use Rattle.net_model.specs.declared.wires.Item.{Item}
 use Rattle.net_model.specs.declared.wires.Item.TheVariants.{Input, Const, Block as OfBlock}
 use Rattle.net_model.specs.declared.wires.Wire.{Wire}
 use Rattle.net_model.specs.Wires.{kind_least, kind_greatest}
-use Rattle.net_model.specs.Validity.{is_good_kind, kind_holds, takes_block, are_given, is_number_of, type_given, agrees, reads_earlier, item_reads_earlier, item_agrees, item_in_range, has_good_numbers, are_distinct}
+use Rattle.net_model.specs.Validity.{is_good_kind, kind_holds, takes_block, arguments_agree, is_number_of, output_type, agrees, reads_earlier, item_reads_earlier, item_agrees, item_in_range, has_good_numbers, are_distinct}
 use Rattle.net_text.specs.declared.routine_word.Routine.{Routine}
 use Rattle.net_text.specs.declared.routine_word.Routine.TheVariants.{ArithOf, ScaledOf}
 use Rattle.net_text.specs.RoutineWords.{routine_at}
@@ -72,12 +72,12 @@ block_is_read : (lines : List (List ℕ)) (wires : List Wire) (i : ℕ) (name : 
     → IsNew (take i wires) name → is_good_kind kind ≡ true → reads_earlier i b ≡ true → agrees wires kind b ≡ true → has_good_numbers b ≡ true → NameIsRead (OfBlock b)
     → wire_line lines (take i wires) (wire_words wires (record { name = name; kind = kind; item = OfBlock b })) ≡ Ok (record { kind = kind; item = OfBlock b })
 block_is_read lines wires i name kind (Arith op v x y z sh) distinct within new good earlier agree numbers named =
-    let given = (all_three (takes_block (Arith op v x y z sh)) (are_given wires (Arith op v x y z sh)) (is_number_of (type_given (Arith op v x y z sh)) kind) agree).1 in
+    let given = (all_three (takes_block (Arith op v x y z sh)) (arguments_agree wires (Arith op v x y z sh)) (is_number_of (output_type (Arith op v x y z sh)) kind) agree).1 in
     let read = arith_line wires i op v x y z sh name (kind_word kind) (block_name (Arith op v x y z sh)) distinct within earlier given numbers in
     wire_line-reads lines (take i wires) name (kind_word kind) (block_name (Arith op v x y z sh)) (argument_words wires (Arith op v x y z sh) ++ shift_words (Arith op v x y z sh)) kind (ArithOf op v) x.0 y.0 z.0 sh
     new (kind_of-kind_word kind good) (is_position-kind_word kind) named read (agrees_so_far wires i kind (Arith op v x y z sh) earlier agree)
 block_is_read lines wires i name kind (Scaled op v x y) distinct within new good earlier agree numbers named =
-    let given = (all_three (takes_block (Scaled op v x y)) (are_given wires (Scaled op v x y)) (is_number_of (type_given (Scaled op v x y)) kind) agree).1 in
+    let given = (all_three (takes_block (Scaled op v x y)) (arguments_agree wires (Scaled op v x y)) (is_number_of (output_type (Scaled op v x y)) kind) agree).1 in
     let read = scaled_line wires i op v x y name (kind_word kind) (block_name (Scaled op v x y)) distinct within earlier given in
     wire_line-reads lines (take i wires) name (kind_word kind) (block_name (Scaled op v x y)) (argument_words wires (Scaled op v x y) ++ []) kind (ScaledOf op v) x.0 y.0 x.0 0
     new (kind_of-kind_word kind good) (is_position-kind_word kind) named read (agrees_so_far wires i kind (Scaled op v x y) earlier agree)

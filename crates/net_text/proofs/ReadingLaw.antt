@@ -19,8 +19,8 @@ use Rattle.net_model.specs.declared.wires.Item.{Item}
 use Rattle.net_model.specs.declared.wires.Item.TheVariants.{Input, Const, Block as OfBlock}
 use Rattle.net_model.specs.declared.wires.Wire.{Wire}
 use Rattle.net_text.specs.declared.line_forms.Content.{Content}
-use Rattle.net_model.specs.Wires.{NetData, no_wire, argument_of, is_input}
-use Rattle.net_model.specs.Validity.{is_number_of, type_read, takes_block, type_given, is_earlier, is_given, reads_earlier, are_given, is_built_item, item_reads_earlier, item_agrees, item_in_range, is_good_wire, is_good_kind, are_good_from, are_distinct, are_distinct_numbers, is_valid, IsValid}
+use Rattle.net_model.specs.Wires.{NetData, no_wire, argument_of}
+use Rattle.net_model.specs.Validity.{is_number_of, type_read, takes_block, output_type, is_earlier, argument_agrees, reads_earlier, arguments_agree, is_built_item, item_reads_earlier, item_agrees, item_in_range, is_good_wire, is_good_kind, are_good_from, are_distinct, is_among, are_distinct_outs, has_ends, is_valid, IsValid}
 use Rattle.text_words.specs.Steps.{◌>>=◌, demand}
 use Rattle.net_text.specs.Forms.{out_line, defining_line}
 use Rattle.net_text.specs.Text.{located, after_out, after_definition, after_line, ended, walked, is_head, no_head, from_head, network_of}
@@ -29,26 +29,26 @@ use Rattle.net_text.proofs.GoodLines.{IsGood, IsGoodOut, is_wire-named, definiti
 -- ---- one more wire leaves the wires before it good
 
 -- an earlier argument is the same wire
-is_given-append : (wires more : List Wire) (i first a : ℕ) (ty : Option Ty) → is_earlier i ty a ≡ true → i ≤ length wires → is_given (wires ++ more) first ty a ≡ is_given wires first ty a
-is_given-append wires more i first a (Some ty) below h =
+argument_agrees-append : (wires more : List Wire) (i first a : ℕ) (ty : Option Ty) → is_earlier i ty a ≡ true → i ≤ length wires → argument_agrees (wires ++ more) first ty a ≡ argument_agrees wires first ty a
+argument_agrees-append wires more i first a (Some ty) below h =
     let lt : a < length wires = grind (arith, nat_tests) in
     ap (λ w. is_number_of ty w.kind) (get_or-append wires more no_wire a lt)
-is_given-append wires more i first a None below h = refl
+argument_agrees-append wires more i first a None below h = refl
 
 -- so all that a block is given stays
-are_given-append : (wires more : List Wire) (i : ℕ) (b : Block) → reads_earlier i b ≡ true → i ≤ length wires → are_given (wires ++ more) b ≡ are_given wires b
-are_given-append wires more i b below h =
+arguments_agree-append : (wires more : List Wire) (i : ℕ) (b : Block) → reads_earlier i b ≡ true → i ≤ length wires → arguments_agree (wires ++ more) b ≡ arguments_agree wires b
+arguments_agree-append wires more i b below h =
     let parts = and_parts _ _ below in
     let front = and_parts _ _ parts.0 in
     let first = argument_of b 0 in
-    ap₂ (λ p q. p && q) (ap₂ (λ p q. p && q) (is_given-append wires more i first first (type_read b 0) front.0 h) (is_given-append wires more i first (argument_of b 1) (type_read b 1) front.1 h)) (is_given-append wires more i first (argument_of b 2) (type_read b 2) parts.1 h)
+    ap₂ (λ p q. p && q) (ap₂ (λ p q. p && q) (argument_agrees-append wires more i first first (type_read b 0) front.0 h) (argument_agrees-append wires more i first (argument_of b 1) (type_read b 1) front.1 h)) (argument_agrees-append wires more i first (argument_of b 2) (type_read b 2) parts.1 h)
 
 -- and its types agree as before
 item_agrees-append : (wires more : List Wire) (i : ℕ) (kind : Kind) (item : Item) → item_reads_earlier i item ≡ true → i ≤ length wires → item_agrees (wires ++ more) kind item ≡ item_agrees wires kind item
 item_agrees-append wires more i kind (Input lo hi) below h = refl
 item_agrees-append wires more i kind (Const value) below h = refl
 item_agrees-append wires more i kind (OfBlock b) below h =
-    ap (λ t. takes_block b && t && is_number_of (type_given b) kind) (are_given-append wires more i b below h)
+    ap (λ t. takes_block b && t && is_number_of (output_type b) kind) (arguments_agree-append wires more i b below h)
 
 -- a test that is the same where the third holds
 by_earlier : (n b e s t k r : Bool) → (e ≡ true → s ≡ t) → (n && b && e && s && k && r) ≡ (n && b && e && t && k && r)
@@ -111,12 +111,12 @@ are_distinct-last (m ∷ names) name d new =
     let apart = or_false (bytes_eq m name) (list_any (λ m. bytes_eq m name) names) new in
     true_if_both _ _ (none_more (bytes_eq m) names name (first_of_both (not (list_any (bytes_eq m) names)) (are_distinct names) d) apart.0) (are_distinct-last names name (second_of_both (not (list_any (bytes_eq m) names)) (are_distinct names) d) apart.1)
 
--- one more number that is new
-are_distinct_numbers-last : (numbers : List ℕ) (n : ℕ) → are_distinct_numbers numbers ≡ true → list_any (λ m. m == n) numbers ≡ false → are_distinct_numbers (numbers ++ n ∷ []) ≡ true
-are_distinct_numbers-last [] n d new = refl
-are_distinct_numbers-last (m ∷ numbers) n d new =
-    let apart = or_false (m == n) (list_any (λ m. m == n) numbers) new in
-    true_if_both _ _ (none_more (λ k. m == k) numbers n (first_of_both (not (list_any (λ k. m == k) numbers)) (are_distinct_numbers numbers) d) apart.0) (are_distinct_numbers-last numbers n (second_of_both (not (list_any (λ k. m == k) numbers)) (are_distinct_numbers numbers) d) apart.1)
+-- one more output that is new
+are_distinct_outs-last : (outs : List WireNo) (o : WireNo) → are_distinct_outs outs ≡ true → list_any (λ m. m.0 == o.0) outs ≡ false → are_distinct_outs (outs ++ o ∷ []) ≡ true
+are_distinct_outs-last [] o d new = refl
+are_distinct_outs-last (m ∷ outs) o d new =
+    let apart = or_false (m.0 == o.0) (list_any (λ m. m.0 == o.0) outs) new in
+    true_if_both _ _ (none_more (λ k. m.0 == k.0) outs o (first_of_both (not (is_among outs m)) (are_distinct_outs outs) d) apart.0) (are_distinct_outs-last outs o (second_of_both (not (is_among outs m)) (are_distinct_outs outs) d) apart.1)
 
 -- a test of what is mapped
 list_any-map : {X Y : Type 0} (f : X → Y) (p : Y → Bool) (xs : List X) → list_any p (map f xs) ≡ list_any (λ x. p (f x)) xs
@@ -150,7 +150,7 @@ record IsSound (net : NetData) : Type 0 where
   distinct : are_distinct (map (λ w. w.name) net.wires) ≡ true
   good : are_good_from net.wires 0 net.wires ≡ true
   within : list_all (λ o. nat_lt o.0 (length net.wires)) net.outs ≡ true
-  once : are_distinct_numbers (map (λ o. o.0) net.outs) ≡ true
+  once : are_distinct_outs net.outs ≡ true
 
 -- no wires and no outputs
 abbrev start : NetData
@@ -187,13 +187,12 @@ more_wires_sound net name content s g =
 -- it stays sound with one more good output
 more_outs_sound : (net : NetData) (out : WireNo) → IsSound net → IsGoodOut net.wires net.outs out → IsSound (more_outs net out)
 more_outs_sound net out s g =
-    let new : list_any (λ m. m == out.0) (map (λ o. o.0) net.outs) ≡ false = list_any-map (λ o. o.0) (λ m. m == out.0) net.outs ∙ g.fresh in
     record {
       few = s.few;
       distinct = s.distinct;
       good = s.good;
       within = list_all-append (λ o. nat_lt o.0 (length net.wires)) net.outs (out ∷ []) ∙ true_if_both _ _ s.within (true_if_both _ _ g.within refl);
-      once = ap are_distinct_numbers (map-last (λ o. o.0) net.outs out) ∙ are_distinct_numbers-last (map (λ o. o.0) net.outs) out.0 s.once new;
+      once = are_distinct_outs-last net.outs out s.once g.fresh;
     }
 
 -- ---- the lines
@@ -226,18 +225,14 @@ after_line_sound lines net words next s h =
 
 -- ---- the end
 
--- an input and an output
-abbrev has_ends : NetData → Bool
-has_ends net = list_any (λ w. is_input w.item) net.wires && nat_lt 0 (length net.outs)
-
 -- what is sound and has ends is valid
-sound_valid : (net : NetData) → IsSound net → has_ends net ≡ true → IsValid net
+sound_valid : (net : NetData) → IsSound net → has_ends net.wires net.outs ≡ true → IsValid net
 unfolding is_valid
 sound_valid net s e =
-    true_if_both _ _ (true_if_both _ _ (true_if_both _ _ (true_if_both _ _ (true_if_both _ _ (true_if_both _ _ s.few s.distinct) s.good) s.within) s.once) (first_of_both (list_any (λ w. is_input w.item) net.wires) (nat_lt 0 (length net.outs)) e)) (second_of_both (list_any (λ w. is_input w.item) net.wires) (nat_lt 0 (length net.outs)) e)
+    true_if_both _ _ (true_if_both _ _ (true_if_both _ _ (true_if_both _ _ (true_if_both _ _ s.few s.distinct) s.good) s.within) s.once) e
 
 -- the end tests the ends
-ended_valid : (above : ℕ) (net last : NetData) (ends : Bool) → IsSound net → has_ends net ≡ ends → located above (demand ends Missing >>= λ _. Ok net) ≡ Ok last → IsValid last
+ended_valid : (above : ℕ) (net last : NetData) (ends : Bool) → IsSound net → has_ends net.wires net.outs ≡ ends → located above (demand ends Missing >>= λ _. Ok net) ≡ Ok last → IsValid last
 ended_valid above net last true s e h =
     let same : net ≡ last = cc in subst (λ n. IsValid n) same (sound_valid net s e)
 ended_valid above net last false s e h = cc
@@ -250,7 +245,7 @@ step_valid line (Ok next) rest last f h = f next refl h
 -- all lines below the head
 walked_valid : (lines : List (List ℕ)) (above : ℕ) (net : NetData) (rest : List (List ℕ)) (last : NetData) → IsSound net → walked lines above net rest ≡ Ok last → IsValid last
 unfolding walked ended
-walked_valid lines above net [] last s h = ended_valid above net last (has_ends net) s refl h
+walked_valid lines above net [] last s h = ended_valid above net last (has_ends net.wires net.outs) s refl h
 walked_valid lines above net (line ∷ rest) last s h =
     step_valid (above + 1) (after_line lines net (words_of line)) (λ next. walked lines (above + 1) next rest) last (λ next e. walked_valid lines (above + 1) next rest last (after_line_sound lines net (words_of line) next s e)) h
 

@@ -5,3 +5,4 @@ pub mod PlainLines
 pub mod SlotFacts
 pub mod WalkFacts
 pub mod RowFacts
+pub mod AllInputs

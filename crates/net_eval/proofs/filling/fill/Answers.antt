@@ -7,4 +7,4 @@ loop-i-init c = values_start _ _
 
 pub loop-i-preserved : goal.loop-i-preserved
 loop-i-preserved c =
-    values_push c.args.steps.now c.args.inputs.now c.loop-i.values _ c.loop-i.i _ c.value_of-value.result (omega arith) c.loop-i.invariant (search rules) (ap (λ n. take n c.loop-i.values) (omega arith)) c.value_of-value.ensures
+    values_push c.args.steps.now c.args.inputs.now c.loop-i.values _ c.loop-i.i _ c.step_value-value.result (omega arith) c.loop-i.invariant (search rules) (ap (λ n. take n c.loop-i.values) (omega arith)) c.step_value-value.ensures
