@@ -3,7 +3,7 @@ use Rattle.std.proofs.Common.{◌≡◌, ℕ, zero, suc, ◌+◌, ◌<◌, Bool,
 use Rattle.net_model.specs.declared.wires.Wire.{Wire}
 use Rattle.net_model.specs.Wires.{parts_of}
 use Rattle.cert_rules.specs.declared.bounds.Bounds.{Bounds}
-use Rattle.cert_rules.specs.Acceptance.{is_sound_at, is_inductive_at, first_failing, or_later, first_rejected}
+use Rattle.cert_rules.specs.Acceptance.{is_allowed_at, is_inductive_at, first_failing, or_later, first_rejected}
 
 some_same : (a b : ℕ) → ◌≡◌ {A = Option ℕ} (Some a) (Some b) → a ≡ b
 some_same a b h = cc
@@ -26,4 +26,4 @@ either_below None later p end one two h = two h
 pub rejected_below : (wires : List Wire) (entries : List Bounds) (p : ℕ) → Some p ≡ first_rejected wires entries → p < length (parts_of wires)
 unfolding first_rejected
 rejected_below wires entries p h =
-    either_below _ _ p (length (parts_of wires)) (λ e. omega (arith, first_failing_below (is_sound_at wires entries) 0 (length (parts_of wires)) p e)) (λ e. omega (arith, first_failing_below (is_inductive_at wires entries) 0 (length (parts_of wires)) p e)) (sym h)
+    either_below _ _ p (length (parts_of wires)) (λ e. omega (arith, first_failing_below (is_allowed_at wires entries) 0 (length (parts_of wires)) p e)) (λ e. omega (arith, first_failing_below (is_inductive_at wires entries) 0 (length (parts_of wires)) p e)) (sym h)

@@ -15,9 +15,9 @@ use Rattle.net_model.specs.Wires.{NetData, wire_at, parts_of}
 use Rattle.net_model.specs.Validity.{IsValid}
 use Rattle.net_model.specs.Smooth.{is_smooth, IsSmooth}
 use Rattle.net_model.proofs.ValidityFacts.{arith-valid}
+use Rattle.mfx_arith.specs.Operations.{is_smooth_operation}
 use Rattle.cert_rules.specs.declared.bounds.Bounds.{Bounds}
-use Rattle.cert_rules.specs.ArithSoundness.{has_rule}
-use Rattle.cert_rules.specs.Acceptance.{Accepts, is_sound_at, is_inductive_at, first_failing, or_later, first_rejected}
+use Rattle.cert_rules.specs.Acceptance.{Accepts, is_allowed_at, is_inductive_at, first_failing, or_later, first_rejected}
 use Rattle.cert_rules.specs.Theorem.{AcceptsExactly, AllAreSmooth}
 
 some_is_not_none : (k : ℕ) → Some k ≡ None → ⊥
@@ -64,20 +64,20 @@ neither None b h = (refl, h)
 pub accepts_from_none_rejected : (wires : List Wire) (entries : List Bounds) → IsSmooth wires → length entries ≡ length (parts_of wires) → first_rejected wires entries ≡ None → Accepts wires entries
 unfolding first_rejected
 accepts_from_none_rejected wires entries smooth complete h =
-    let both = neither (first_failing (is_sound_at wires entries) 0 (length (parts_of wires))) (first_failing (is_inductive_at wires entries) 0 (length (parts_of wires))) h in
+    let both = neither (first_failing (is_allowed_at wires entries) 0 (length (parts_of wires))) (first_failing (is_inductive_at wires entries) 0 (length (parts_of wires))) h in
     record {
       smooth = smooth;
       complete = complete;
-      sound = λ k l. all_pass (is_sound_at wires entries) (length (parts_of wires)) 0 both.0 k (omega arith) (omega arith);
+      allowed = λ k l. all_pass (is_allowed_at wires entries) (length (parts_of wires)) 0 both.0 k (omega arith) (omega arith);
       inductive = λ k l. all_pass (is_inductive_at wires entries) (length (parts_of wires)) 0 both.1 k (omega arith) (omega arith);
     }
 
 pub none_rejected_from_accepts : (wires : List Wire) (entries : List Bounds) → Accepts wires entries → first_rejected wires entries ≡ None
 unfolding first_rejected
 none_rejected_from_accepts wires entries a =
-    let sound = none_fails (is_sound_at wires entries) (length (parts_of wires)) 0 (λ i p q. a.sound i (omega arith)) in
+    let allowed = none_fails (is_allowed_at wires entries) (length (parts_of wires)) 0 (λ i p q. a.allowed i (omega arith)) in
     let inductive = none_fails (is_inductive_at wires entries) (length (parts_of wires)) 0 (λ i p q. a.inductive i (omega arith)) in
-    ap (λ o. or_later o (first_failing (is_inductive_at wires entries) 0 (length (parts_of wires)))) sound ∙ inductive
+    ap (λ o. or_later o (first_failing (is_inductive_at wires entries) 0 (length (parts_of wires)))) allowed ∙ inductive
 
 pub accepts_exactly : AcceptsExactly
 accepts_exactly wires entries smooth complete = (accepts_from_none_rejected wires entries smooth complete, none_rejected_from_accepts wires entries)
@@ -85,11 +85,11 @@ accepts_exactly wires entries smooth complete = (accepts_from_none_rejected wire
 -- ---- smoothness
 
 -- each built operation has a rule
-pub ruled_if_built : (op : ArithOp) → is_built op ≡ true → has_rule op ≡ true
+pub ruled_if_built : (op : ArithOp) → is_built op ≡ true → is_smooth_operation op ≡ true
 ruled_if_built Mod h = absurd (false≢true h)
 ruled_if_built other h = refl
 
-smooth_with_rule : (op : ArithOp) (v : Variant) (x y z : WireNo) (sh : ℕ) → has_rule op ≡ true → IsTrue (is_smooth (OfBlock (Arith op v x y z sh)))
+smooth_with_rule : (op : ArithOp) (v : Variant) (x y z : WireNo) (sh : ℕ) → is_smooth_operation op ≡ true → IsTrue (is_smooth (OfBlock (Arith op v x y z sh)))
 smooth_with_rule Mod v x y z sh h = absurd (false≢true h)
 smooth_with_rule other v x y z sh h = refl
 

@@ -1,5 +1,5 @@
 -- The rule of a part depends on what it reads alone.
-use Rattle.std.proofs.Common.{◌≡◌, ℕ, zero, suc, ◌<◌, ◌≤◌, Bool, true, false, cond, not, ◌&&◌, ◌||◌, ◌==◌, List, length, refl, sym, ap, ◌∙◌, arith, None, eq-or-lt_of_le, inl, inr, eq-eqb}
+use Rattle.std.proofs.Common.{◌≡◌, ℕ, ◌<◌, Bool, cond, not, ◌||◌, List, length, refl, sym, ap, ◌∙◌, arith, None, Some}
 use Rattle.fx_routines.specs.declared.operation.ArithOp.{ArithOp}
 use Rattle.fx_routines.specs.declared.operation.ArithOp.TheVariants.{Add, Sub, AbsDiff, Abs, Mul, Div, Mod, MulDiv, MulShRight, DivShLeft, Limit, Min, Max, RateLimiter}
 use Rattle.mfx_scaled.specs.declared.binary_points.Points.{Points}
@@ -12,21 +12,21 @@ use Rattle.net_model.specs.declared.wires.Item.{Item}
 use Rattle.net_model.specs.declared.wires.Item.TheVariants.{Input, Const, Block as OfBlock}
 use Rattle.net_model.specs.declared.wires.Role.{Role}
 use Rattle.net_model.specs.declared.wires.Role.TheVariants.{Value}
-use Rattle.net_model.specs.declared.wires.Part.{Part}
 use Rattle.net_model.specs.declared.wires.Wire.{Wire}
 use Rattle.net_model.specs.Wires.{NetData, wire_at, argument_of, parts_of}
 use Rattle.net_model.specs.Validity.{IsValid}
 use Rattle.net_model.proofs.ValidityFacts.{argument_of-valid, get_or-parts_of, length-parts_of, value_part}
 use Rattle.net_meaning.specs.Blocks.{points_of}
+use Rattle.fx_core.specs.Arguments.{three, two}
+use Rattle.mfx_arith.specs.Operations.{arith_arity, is_smooth_operation}
+use Rattle.mfx_scaled.specs.Operations.{scaled_arity}
 use Rattle.cert_rules.specs.declared.bounds.Bounds.{Bounds}
-use Rattle.cert_rules.specs.ArithCorners.{three}
-use Rattle.cert_rules.specs.ArithRules.{arith_arity, arith_bounds, arith_may_divide_by_zero, arith_values}
-use Rattle.cert_rules.specs.ArithSoundness.{has_rule}
-use Rattle.cert_rules.specs.ScaledCorners.{two}
-use Rattle.cert_rules.specs.ScaledRules.{scaled_arity, scaled_bounds, scaled_may_divide_by_zero, scaled_values}
-use Rattle.cert_rules.specs.Rules.{arguments_of, if_allowed, may_fail, proposed, rule_of}
+use Rattle.cert_rules.specs.ArithRules.{arith_bounds, arith_may_divide_by_zero, arith_values}
+use Rattle.cert_rules.specs.ScaledRules.{scaled_bounds, scaled_may_divide_by_zero, scaled_values}
+use Rattle.cert_rules.specs.Rules.{allowed_of, arguments_of, has_no_rule, proposed, rule_of}
 use Rattle.cert_rules.specs.Acceptance.{part_at}
-use Rattle.cert_rules.specs.Arguments.{AgreeFor, RulesReadTheirArguments, arity_of, is_among_first, reads, reads_at}
+use Rattle.cert_rules.specs.Arguments.{AgreeFor, RulesReadTheirArguments, arity_of}
+use Rattle.cert_rules.proofs.PartsRead.{among, reads_at-now, reads_there}
 
 -- ---- an operation's bounds depend on as many arguments as it has
 
@@ -128,12 +128,12 @@ form_divisor_same op one other same =
 abbrev SameFor : Item → (ℕ → Bounds) → (ℕ → Bounds) → Type 0
 SameFor item one other = (b : Block) → item ≡ OfBlock b → Same (arity_of b) (arguments_of b one) (arguments_of b other)
 
-may_same : (item : Item) (one other : ℕ → Bounds) → SameFor item one other → may_fail item one ≡ may_fail item other
-may_same (Input lo hi) one other same = refl
-may_same (Const value) one other same = refl
-may_same (OfBlock (Arith op v x y z sh)) one other same =
-    ap (λ t. not (has_rule op) || t) (divisor_same op (arguments_of (Arith op v x y z sh) one) (arguments_of (Arith op v x y z sh) other) (same (Arith op v x y z sh) refl))
-may_same (OfBlock (Scaled op v x y)) one other same =
+no_rule_same : (item : Item) (one other : ℕ → Bounds) → SameFor item one other → has_no_rule item one ≡ has_no_rule item other
+no_rule_same (Input lo hi) one other same = refl
+no_rule_same (Const value) one other same = refl
+no_rule_same (OfBlock (Arith op v x y z sh)) one other same =
+    ap (λ t. not (is_smooth_operation op) || t) (divisor_same op (arguments_of (Arith op v x y z sh) one) (arguments_of (Arith op v x y z sh) other) (same (Arith op v x y z sh) refl))
+no_rule_same (OfBlock (Scaled op v x y)) one other same =
     form_divisor_same op (arguments_of (Scaled op v x y) one) (arguments_of (Scaled op v x y) other) (same (Scaled op v x y) refl)
 
 proposed_same : (wires : List Wire) (kind : Kind) (item : Item) (one other : ℕ → Bounds) → SameFor item one other → proposed wires kind item one ≡ proposed wires kind item other
@@ -149,28 +149,10 @@ rule_same : (wires : List Wire) (i : ℕ) (one other : ℕ → Role → Bounds) 
 unfolding rule_of
 rule_same wires i one other same =
     let w = wire_at wires i in
-    ap (λ (t : Bool). cond t None (if_allowed w.kind Value (proposed wires w.kind w.item (λ k. one k Value)))) (may_same w.item (λ k. one k Value) (λ k. other k Value) same)
-    ∙ ap (λ (b : Bounds). cond (may_fail w.item (λ k. other k Value)) None (if_allowed w.kind Value b)) (proposed_same wires w.kind w.item (λ k. one k Value) (λ k. other k Value) same)
+    ap (λ (t : Bool). allowed_of w.kind Value (cond t None (Some (proposed wires w.kind w.item (λ k. one k Value))))) (no_rule_same w.item (λ k. one k Value) (λ k. other k Value) same)
+    ∙ ap (λ (b : Bounds). allowed_of w.kind Value (cond (has_no_rule w.item (λ k. other k Value)) None (Some b))) (proposed_same wires w.kind w.item (λ k. one k Value) (λ k. other k Value) same)
 
 -- ---- each argument of a block is a part that is read
-
-or-true : (a : Bool) → (a || true) ≡ true
-or-true true = refl
-or-true false = refl
-
-among : (b : Block) (n q : ℕ) → q < n → is_among_first b n (argument_of b q) ≡ true
-among b zero q h = absurd (omega arith)
-among b (suc n) q h =
-    let le : q ≤ n = omega arith in
-    elim (eq-or-lt_of_le le) [
-      | inl same ↦ ap (λ t. is_among_first b n (argument_of b q) || t) (eq-eqb _ _ (ap (argument_of b) (sym same))) ∙ or-true _
-      | inr less ↦ ap (λ t. t || argument_of b n == argument_of b q) (among b n q less)
-    ]
-
-reads_there : (wires : List Wire) (p a : ℕ) (b : Block) → part_at wires p ≡ value_part p → part_at wires a ≡ value_part a → (wire_at wires p).item ≡ OfBlock b → is_among_first b (arity_of b) a ≡ true → reads_at wires p a ≡ true
-unfolding reads_at
-reads_there wires p a b here there is e =
-    ap (λ (t : Part). reads (wire_at wires t.wire.0).item (part_at wires a)) here ∙ ap (reads (wire_at wires p).item) there ∙ ap (λ (t : Item). reads t (value_part a)) is ∙ ap (λ (t : Bool). t && true) e
 
 same_arguments : (net : NetData) → IsValid net → (p : ℕ) → p < length net.wires → (one other : ℕ → Role → Bounds) → AgreeFor net.wires p one other → SameFor (wire_at net.wires p).item (λ w. one w Value) (λ w. other w Value)
 same_arguments net valid p there one other agree b is q few =
@@ -178,7 +160,7 @@ same_arguments net valid p there one other agree b is q few =
     let in_wires : argument_of b q < length net.wires = omega arith in
     let in_parts : argument_of b q < length (parts_of net.wires) = rw (length-parts_of net.wires) in_wires in
     let here : part_at net.wires (argument_of b q) ≡ value_part (argument_of b q) = get_or-parts_of net.wires (argument_of b q) in_wires in
-    let read = reads_there net.wires p (argument_of b q) b (get_or-parts_of net.wires p there) here is (among b (arity_of b) q few) in
+    let read = reads_at-now net.wires p (argument_of b q) (reads_there net.wires p (argument_of b q) b (get_or-parts_of net.wires p there) here is (among b (arity_of b) q few)) in
     rw here at (agree (argument_of b q) in_parts read)
 
 pub rules_read_their_arguments : RulesReadTheirArguments

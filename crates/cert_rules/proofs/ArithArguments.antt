@@ -6,11 +6,12 @@ use Rattle.fx_fraction.proofs.Order.{AtMost_trans, AtMost-over}
 use Rattle.fx_fraction.proofs.WholeNumbers.{int_le_refl, int_le_trans}
 use Rattle.fx_routines.specs.declared.operation.ArithOp.{ArithOp}
 use Rattle.fx_routines.specs.declared.operation.ArithOp.TheVariants.{Add, Sub, AbsDiff, Abs, Mul, Div, Mod, MulDiv, MulShRight, DivShLeft, Limit, Min, Max, RateLimiter}
+use Rattle.fx_core.specs.Arguments.{three}
+use Rattle.mfx_arith.specs.Operations.{is_smooth_operation}
 use Rattle.cert_rules.specs.declared.bounds.Bounds.{Bounds}
 use Rattle.cert_rules.specs.Certificates.{IsWithin}
 use Rattle.cert_rules.specs.Entries.{IsSmall}
-use Rattle.cert_rules.specs.ArithCorners.{three}
-use Rattle.cert_rules.specs.ArithSoundness.{HasUnsignedStep, has_rule}
+use Rattle.cert_rules.specs.ArithSoundness.{HasUnsignedStep}
 use Rattle.cert_rules.proofs.ArithProducts.{near_positive}
 use Rattle.cert_rules.proofs.ArithSoundnessProof.{arith_rules_are_sound}
 use Rattle.cert_rules.proofs.RuleSoundness.{itself_within}
@@ -50,7 +51,7 @@ corner_within b small =
       near = AtMost_trans (distance (whole b.lo) (whole b.lo)) (over (pos 0) 65536) (over b.err 65536) same (AtMost-over (pos 0) b.err 65536 (omega arith) small.positive);
     }
 
-pub proper_bounds : (op : ArithOp) (shift : ℕ) (given : ℕ → Bounds) → has_rule op ≡ true → arith_may_divide_by_zero op given ≡ false → HasUnsignedStep op given → ((p : ℕ) → IsSmall (given p)) → ((arith_bounds op shift given).lo ≤ℤ (arith_bounds op shift given).hi) × (pos 0 ≤ℤ (arith_bounds op shift given).err)
+pub proper_bounds : (op : ArithOp) (shift : ℕ) (given : ℕ → Bounds) → is_smooth_operation op ≡ true → arith_may_divide_by_zero op given ≡ false → HasUnsignedStep op given → ((p : ℕ) → IsSmall (given p)) → ((arith_bounds op shift given).lo ≤ℤ (arith_bounds op shift given).hi) × (pos 0 ≤ℤ (arith_bounds op shift given).err)
 proper_bounds op shift given ruled away step small =
     let b = arith_bounds op shift given in
     let keeps = arith_rules_are_sound op ruled shift given (λ p. (given p).lo) (λ p. whole (given p).lo) away step (λ p _. corner_within (given p) (small p)) in

@@ -5,10 +5,11 @@ use Rattle.std.proofs.Common.{refl, sym, ap, ap₂, ◌∙◌, arith}
 use Rattle.std.proofs.lemmas.Int.{ints, clamps}
 use Rattle.fx_routines.specs.declared.operation.ArithOp.{ArithOp}
 use Rattle.fx_routines.specs.declared.operation.ArithOp.TheVariants.{Add, Sub, AbsDiff, Abs, Mul, Div, Mod, MulDiv, MulShRight, DivShLeft, Limit, Min, Max, RateLimiter}
+use Rattle.fx_core.specs.Arguments.{three}
 use Rattle.cert_rules.specs.declared.bounds.Bounds.{Bounds}
 use Rattle.cert_rules.specs.Ranges.{least_among, greatest_among}
 use Rattle.cert_rules.specs.ArithRules.{arith_corner_values, arith_values}
-use Rattle.cert_rules.specs.ArithCorners.{three, corner_value, least_over_third, greatest_over_third, least_over_second, greatest_over_second, least_at_corners, greatest_at_corners}
+use Rattle.cert_rules.specs.ArithCorners.{corner_value, least_over_third, greatest_over_third, least_over_second, greatest_over_second, least_at_corners, greatest_at_corners}
 
 -- ---- hulls of two, four and eight, for an operation that takes hulls
 

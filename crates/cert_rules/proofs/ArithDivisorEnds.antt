@@ -4,9 +4,10 @@ use Rattle.std.proofs.Common.{refl, ap, ap₂, ◌∙◌, arith}
 use Rattle.std.proofs.lemmas.Int.{ints}
 use Rattle.fx_routines.specs.declared.operation.ArithOp.{ArithOp}
 use Rattle.fx_routines.specs.declared.operation.ArithOp.TheVariants.{Add, Sub, AbsDiff, Abs, Mul, Div, Mod, MulDiv, MulShRight, DivShLeft, Limit, Min, Max, RateLimiter}
+use Rattle.fx_core.specs.Arguments.{three}
 use Rattle.cert_rules.specs.declared.bounds.Bounds.{Bounds}
 use Rattle.cert_rules.specs.ArithRules.{arith_may_divide_by_zero, may_be_zero}
-use Rattle.cert_rules.specs.ArithCorners.{HasDivisorsAtEnds, three}
+use Rattle.cert_rules.specs.ArithCorners.{HasDivisorsAtEnds}
 use Rattle.cert_rules.proofs.ArithHulls.{IsInside}
 use Rattle.cert_rules.proofs.ArithDivisors.{stays_away}
 use Rattle.cert_rules.proofs.ArithQuotientValues.{one_sided_divisor}

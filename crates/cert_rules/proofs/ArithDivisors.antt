@@ -1,14 +1,14 @@
 -- A divisor that may not be 0: how far from 0 it stays, and the error of a quotient by it.
-use Rattle.std.specs.Prelude.{◌≡◌, ℕ, ◌+◌, ◌*◌, ◌≤◌, ◌⊎◌, Bool, true, false, ◌&&◌, ◌||◌, ℤ, pos, negsuc, ◌+ℤ◌, ◌-ℤ◌, ◌*ℤ◌, ◌≤ℤ◌, ◌<ℤ◌, int_le, unsigned_abs, if◌then◌else◌}
+use Rattle.std.specs.Prelude.{◌≡◌, ℕ, ◌+◌, ◌*◌, ◌≤◌, ◌^◌, ◌⊎◌, Bool, true, false, ◌&&◌, ◌||◌, ℤ, pos, negsuc, ◌+ℤ◌, ◌-ℤ◌, ◌*ℤ◌, ◌≤ℤ◌, ◌<ℤ◌, int_le, unsigned_abs, if◌then◌else◌}
 use Rattle.std.specs.Int.{int_min}
-use Rattle.std.proofs.Common.{refl, ap, ◌∙◌, subst, arith, inl, inr}
+use Rattle.std.proofs.Common.{refl, ap, ◌∙◌, subst, arith, inl, inr, pow_pos}
 use Rattle.std.proofs.lemmas.Int.{ints, clamps}
 use native.Mathlib.Nat.{mul-pos}
 use Rattle.fx_fraction.proofs.WholeNumbers.{int_le-pos, int_is_natural, le_of-int_le, int_le-false}
-use Rattle.fx_core.specs.Rounding.{IsLeastQuotientAbove, least_quotient_above}
+use Rattle.fx_core.specs.Rounding.{IsLeastQuotientAbove, least_quotient_above, power}
 use Rattle.fx_core.proofs.RoundingLaws.{least_quotient_above_bounds}
 use Rattle.cert_rules.specs.declared.bounds.Bounds.{Bounds}
-use Rattle.cert_rules.specs.ArithRules.{least_reach, may_be_zero, quotient_error}
+use Rattle.cert_rules.specs.ArithRules.{mignitude, may_be_zero, quotient_error}
 use Rattle.cert_rules.proofs.ArithHulls.{IsInside}
 use Rattle.cert_rules.proofs.ArithProducts.{above_positive}
 
@@ -20,7 +20,7 @@ IsOneSided lo hi = (pos 1 ≤ℤ lo) ⊎ (hi ≤ℤ negsuc 0)
 
 -- a range whose numbers are at least `least` from 0, and whose error is less
 pub record StaysAway (y : Bounds) (least : ℕ) : Type 0 where
-  pub is : least_reach y ≡ pos least
+  pub is : mignitude y ≡ pos least
   pub side : IsOneSided y.lo y.hi
   pub error : y.err <ℤ pos (65536 * least)
   pub away : (n : ℤ) → IsInside y.lo y.hi n → least ≤ unsigned_abs n
@@ -42,11 +42,11 @@ sides_of lo hi err true true e f h = absurd (cc)
 sides_of lo hi err true false e f h = record { apart = refl; side = inr (omega (arith, ints, f)); error = int_le-false _ _ h }
 sides_of lo hi err false t e f h = record { apart = refl; side = inl (omega (arith, ints, e)); error = int_le-false _ _ h }
 
-pub stays_away : (y : Bounds) → may_be_zero y ≡ false → StaysAway y (unsigned_abs (least_reach y))
+pub stays_away : (y : Bounds) → may_be_zero y ≡ false → StaysAway y (unsigned_abs (mignitude y))
 stays_away y h =
     let s = sides_of y.lo y.hi y.err _ _ refl refl h in
     let m = int_min (pos (unsigned_abs y.lo)) (pos (unsigned_abs y.hi)) in
-    let same : least_reach y ≡ m = ap (λ t. if t then pos 0 else m) s.apart in
+    let same : mignitude y ≡ m = ap (λ t. if t then pos 0 else m) s.apart in
     let natural : m ≡ pos (unsigned_abs m) = end_natural y.lo y.hi in
     let error : y.err <ℤ (pos 65536 *ℤ pos (unsigned_abs m)) = subst (λ k. y.err <ℤ (pos 65536 *ℤ k)) natural s.error in
     rw same (record {
@@ -58,10 +58,10 @@ stays_away y h =
 
 -- ---- the error of a quotient as a natural
 
-pub record IsQuotientError (top err : ℤ) (y : Bounds) (M E F L W : ℕ) : Type 0 where
+pub record IsQuotientError (k : ℕ) (top err : ℤ) (y : Bounds) (M E F L W : ℕ) : Type 0 where
   pub rest : ℕ
-  pub is : quotient_error top err y ≡ pos (rest + 65536)
-  pub above : 65536 * (M * F + L * E) ≤ rest * (L * W)
+  pub is : quotient_error k top err y ≡ pos (rest + 65536)
+  pub above : 65536 * (M * F + L * E) ≤ rest * (L * W * 2 ^ k)
 
 pub natural_above : (n d q : ℤ) (N D Q : ℕ) → n ≡ pos N → d ≡ pos D → q ≡ pos Q → n ≤ℤ (q *ℤ d) → N ≤ Q * D
 natural_above n d q N D Q h k p low = le_of-int_le _ _ (rw (h, k, p) at low)
@@ -75,14 +75,14 @@ left_over F L W h = omega (arith, ints, h)
 pub divisor_natural : (fel least : ℤ) (F L W : ℕ) → fel ≡ pos F → least ≡ pos L → W + F ≡ 65536 * L → least *ℤ (pos 65536 *ℤ least -ℤ fel) ≡ pos (L * W)
 divisor_natural fel least F L W h k e = rw (h, k, left_over F L W e) refl
 
-pub quotient_error_of : (top err : ℤ) (y : Bounds) (M E F L W : ℕ) → top ≡ pos M → err ≡ pos E → y.err ≡ pos F → least_reach y ≡ pos L → W + F ≡ 65536 * L → 1 ≤ L → 1 ≤ W → IsQuotientError top err y M E F L W
+pub quotient_error_of : (k : ℕ) (top err : ℤ) (y : Bounds) (M E F L W : ℕ) → top ≡ pos M → err ≡ pos E → y.err ≡ pos F → mignitude y ≡ pos L → W + F ≡ 65536 * L → 1 ≤ L → 1 ≤ W → IsQuotientError k top err y M E F L W
 unfolding quotient_error
-quotient_error_of top err y M E F L W h k p q e some some' =
-    let n = pos 65536 *ℤ (top *ℤ y.err +ℤ least_reach y *ℤ err) in
-    let d = least_reach y *ℤ (pos 65536 *ℤ least_reach y -ℤ y.err) in
-    let n' : n ≡ pos (65536 * (M * F + L * E)) = dividend_natural _ _ _ _ M E F L h k p q in
-    let d' : d ≡ pos (L * W) = divisor_natural _ _ F L W p q e in
-    let one : pos 1 ≤ℤ d = rw d' (int_le-pos _ _ (mul-pos some some')) in
+quotient_error_of k top err y M E F L W h i p q e some some' =
+    let n = pos 65536 *ℤ (top *ℤ y.err +ℤ mignitude y *ℤ err) in
+    let d = mignitude y *ℤ (pos 65536 *ℤ mignitude y -ℤ y.err) *ℤ power k in
+    let n' : n ≡ pos (65536 * (M * F + L * E)) = dividend_natural _ _ _ _ M E F L h i p q in
+    let d' : d ≡ pos (L * W * 2 ^ k) = ap (λ t. t *ℤ power k) (divisor_natural _ _ F L W p q e) in
+    let one : pos 1 ≤ℤ d = rw d' (int_le-pos _ _ (mul-pos (mul-pos some some') (pow_pos k))) in
     let r = least_quotient_above n d in
     let b : IsLeastQuotientAbove n d r = least_quotient_above_bounds n d one in
     let natural : r ≡ pos (unsigned_abs r) = int_is_natural r (above_positive n d r (rw n' (int_le-pos _ _ (omega arith))) one b) in

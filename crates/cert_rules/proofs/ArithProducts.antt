@@ -12,7 +12,7 @@ use Rattle.fx_core.proofs.Integers.{le_of_products}
 use Rattle.fx_core.proofs.RoundingLaws.{least_quotient_above_bounds}
 use Rattle.cert_rules.specs.declared.bounds.Bounds.{Bounds}
 use Rattle.cert_rules.specs.Certificates.{IsWithin}
-use Rattle.cert_rules.specs.ArithRules.{reach, product_error}
+use Rattle.cert_rules.specs.ArithRules.{magnitude, product_error}
 use Rattle.cert_rules.proofs.ArithErrors.{Near}
 
 -- ---- errors as naturals
@@ -32,14 +32,14 @@ pub numerators_near : (m x : ℤ) (err d : ℕ) (e : Fraction) → Is e d x → 
 numerators_near m x err d e i h = record { near = error_bound m (pos err) x 65536 d e (omega arith) i (int_le-pos _ _ h) }
 
 -- a number in a range is at most as far from 0 as the range reaches
-pub within_reach : (b : Bounds) (m : ℤ) (e : Fraction) → IsWithin b m e → unsigned_abs m ≤ unsigned_abs (reach b)
-within_reach b m e w = let low = w.low in let high = w.high in omega (arith, ints, clamps, low, high)
+pub within_magnitude : (b : Bounds) (m : ℤ) (e : Fraction) → IsWithin b m e → unsigned_abs m ≤ unsigned_abs (magnitude b)
+within_magnitude b m e w = let low = w.low in let high = w.high in omega (arith, ints, clamps, low, high)
 
-pub reach_positive : (b : Bounds) → pos 0 ≤ℤ reach b
-reach_positive b = omega (arith, ints, clamps)
+pub magnitude_positive : (b : Bounds) → pos 0 ≤ℤ magnitude b
+magnitude_positive b = omega (arith, ints, clamps)
 
-pub reach_natural : (b : Bounds) → reach b ≡ pos (unsigned_abs (reach b))
-reach_natural b = int_is_natural (reach b) (reach_positive b)
+pub magnitude_natural : (b : Bounds) → magnitude b ≡ pos (unsigned_abs (magnitude b))
+magnitude_natural b = int_is_natural (magnitude b) (magnitude_positive b)
 
 -- ---- the error of a product
 
@@ -74,7 +74,7 @@ product_numerators m n x y M N E F q d h k p t r =
 -- the error of a product as a natural
 pub record IsProductError (x y : Bounds) : Type 0 where
   pub rest : ℕ
-  pub is : product_error x y ≡ pos (unsigned_abs (reach x) * unsigned_abs y.err + unsigned_abs (reach y) * unsigned_abs x.err + rest)
+  pub is : product_error x y ≡ pos (unsigned_abs (magnitude x) * unsigned_abs y.err + unsigned_abs (magnitude y) * unsigned_abs x.err + rest)
   pub above : unsigned_abs x.err * unsigned_abs y.err ≤ rest * 65536
 
 natural_sum : (a b e f q : ℤ) (A B E F Q : ℕ) → a ≡ pos A → b ≡ pos B → e ≡ pos E → f ≡ pos F → q ≡ pos Q → a *ℤ f +ℤ b *ℤ e +ℤ q ≡ pos (A * F + B * E + Q)
@@ -96,7 +96,7 @@ product_error_of x y h k =
     let low : (x.err *ℤ y.err) ≤ℤ (q *ℤ pos 65536) = b.0 in
     record {
       rest = unsigned_abs q;
-      is = natural_sum _ _ _ _ _ _ _ _ _ _ (reach_natural x) (reach_natural y) e f same;
+      is = natural_sum _ _ _ _ _ _ _ _ _ _ (magnitude_natural x) (magnitude_natural y) e f same;
       above = natural_order _ _ _ _ _ _ e f same low;
     }
 
@@ -107,4 +107,4 @@ near_product x y m n e f p q =
     let second : Near (whole n) f y.err = record { near = q.near } in
     let err = product_error_of x y (near_positive m x.err e first) (near_positive n y.err f second) in
     rw err.is (numerators_near (m *ℤ n) (c.x *ℤ c.y) _ (c.bottom * c.bottom) (times e f) (is_times c.first c.second)
-    (product_numerators m n c.x c.y _ _ _ _ err.rest c.bottom (within_reach x m e p) (within_reach y n f q) (near_numerators m x.err c.x c.bottom e c.first first) (near_numerators n y.err c.y c.bottom f c.second second) err.above))
+    (product_numerators m n c.x c.y _ _ _ _ err.rest c.bottom (within_magnitude x m e p) (within_magnitude y n f q) (near_numerators m x.err c.x c.bottom e c.first first) (near_numerators n y.err c.y c.bottom f c.second second) err.above))

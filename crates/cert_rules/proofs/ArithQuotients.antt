@@ -14,7 +14,7 @@ use Rattle.fx_core.specs.Rounding.{least_quotient_above, power, rounded}
 use Rattle.fx_core.proofs.RoundingLaws.{least_quotient_above_bounds, rounded_by_one}
 use Rattle.cert_rules.specs.declared.bounds.Bounds.{Bounds}
 use Rattle.cert_rules.specs.Certificates.{IsWithin}
-use Rattle.cert_rules.specs.ArithRules.{least_reach, may_be_zero, quotient_error, shifted_error}
+use Rattle.cert_rules.specs.ArithRules.{mignitude, may_be_zero, quotient_error, shifted_error}
 use Rattle.cert_rules.proofs.Errors.{IsNear, near-times, near-narrowed}
 use Rattle.cert_rules.proofs.ArithDivisors.{StaysAway, stays_away, quotient_error_of}
 use Rattle.cert_rules.proofs.ArithQuotientValues.{int_div-error}
@@ -125,6 +125,10 @@ division_numerators m n x y r M L E F W Q d i above h =
     rw (signed_out r x y)
     (gathers (unsigned_abs m) M B E F Q d (unsigned_abs y) (unsigned_abs (m *ℤ pos d -ℤ x)) (unsigned_abs (n *ℤ pos d -ℤ y)) 65536 (unsigned_abs (r *ℤ y -ℤ x)) (unsigned_abs (m *ℤ y -ℤ x *ℤ n)) (omega (arith, some, least)) i.top i.dividend i.divisor (rounding_step r m n x y h) (cross_step m n x y d) covered)
 
+-- a divisor that isn't multiplied
+not_raised : (M E F L W Q : ℕ) → 65536 * (M * F + L * E) ≤ Q * (L * W * 2 ^ 0) → 65536 * (M * F + L * E) ≤ Q * (L * W)
+not_raised M E F L W Q h = omega (arith, h)
+
 -- ---- over fractions
 
 pub not_zero_case : (f : Fraction) (d : ℕ) (y : ℤ) (t : Bool) → is_zero f ≡ t → Is f d y → 1 ≤ unsigned_abs y → t ≡ false
@@ -134,12 +138,12 @@ not_zero_case f d y true e i h = absurd (omega (arith, ap unsigned_abs (zero_out
 -- the quotient of a dividend within `top` and a divisor that may not be 0, rounded to less than one away
 pub record Divides (m n : ℤ) (e f : Fraction) (top err : ℤ) (y : Bounds) : Type 0 where
   pub divisor : is_zero f ≡ false
-  pub near : (r : ℤ) → unsigned_abs (r *ℤ n -ℤ m) < unsigned_abs n → Near (whole r) (divided e f) (quotient_error top err y)
+  pub near : (r : ℤ) → unsigned_abs (r *ℤ n -ℤ m) < unsigned_abs n → Near (whole r) (divided e f) (quotient_error 0 top err y)
 
 pub divides : (m n : ℤ) (e f : Fraction) (top err : ℤ) (y : Bounds) → pos 0 ≤ℤ top → unsigned_abs m ≤ unsigned_abs top → Near (whole m) e err → IsWithin y n f → may_be_zero y ≡ false → Divides m n e f top err y
 divides m n e f top err y h size p q away =
     let c = common_two e f in
-    let least = unsigned_abs (least_reach y) in
+    let least = unsigned_abs (mignitude y) in
     let a : StaysAway y least = stays_away y away in
     let second : Near (whole n) f y.err = record { near = q.near } in
     let positive : pos 0 ≤ℤ y.err = near_positive n y.err f second in
@@ -160,10 +164,10 @@ divides m n e f top err y h size p q away =
       apart = apart;
     } in
     let reached : 1 ≤ unsigned_abs c.y = division_divides _ _ _ _ _ _ _ _ _ _ i in
-    let rule = quotient_error_of top err y (unsigned_abs top) (unsigned_abs err) F least W (int_is_natural top h) (int_is_natural err (near_positive m err e p)) (int_is_natural y.err positive) a.is apart some left in
+    let rule = quotient_error_of 0 top err y (unsigned_abs top) (unsigned_abs err) F least W (int_is_natural top h) (int_is_natural err (near_positive m err e p)) (int_is_natural y.err positive) a.is apart some left in
     record {
       divisor = not_zero_case f c.bottom c.y _ refl c.second reached;
-      near = λ r k. rw rule.is (numerators_near r (with_sign c.y c.x) (rule.rest + 65536) (unsigned_abs c.y) (divided e f) (is_divided_signed c.y reached c.first c.second) (division_numerators m n c.x c.y r _ _ _ _ _ rule.rest c.bottom i rule.above k));
+      near = λ r k. rw rule.is (numerators_near r (with_sign c.y c.x) (rule.rest + 65536) (unsigned_abs c.y) (divided e f) (is_divided_signed c.y reached c.first c.second) (division_numerators m n c.x c.y r _ _ _ _ _ rule.rest c.bottom i (not_raised (unsigned_abs top) (unsigned_abs err) F least W rule.rest rule.above) k));
     }
 
 -- ---- by powers of two

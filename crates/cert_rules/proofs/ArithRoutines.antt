@@ -17,12 +17,12 @@ use Rattle.mfx_arith.proofs.WholeNumbers.{plus-whole, minus-whole, absolute-whol
 use Rattle.cert_rules.specs.declared.bounds.Bounds.{Bounds}
 use Rattle.cert_rules.specs.Certificates.{IsWithin}
 use Rattle.cert_rules.specs.Ranges.{least_among, greatest_among}
-use Rattle.cert_rules.specs.ArithRules.{arith_bounds, arith_values, arith_rounded, arith_error, zero_between, reach, may_be_zero, product_error}
+use Rattle.cert_rules.specs.ArithRules.{arith_bounds, arith_values, arith_rounded, arith_error, zero_between, magnitude, may_be_zero, product_error}
 use Rattle.cert_rules.specs.ArithSoundness.{AreWithin, KeepsRule}
 use Rattle.cert_rules.proofs.Hulls.{IsInHull}
 use Rattle.cert_rules.proofs.ArithHulls.{IsInside, in_hull, hull_of_corners, hull_of_three_corners, absolute_in_hull}
 use Rattle.cert_rules.proofs.ArithValues.{abs_diff-whole, limit-whole, rate_limiter-whole, rounded-whole, sum_first, sum_second, difference_first, difference_second, lesser_first, lesser_second, greater_first, greater_second, limit_first, limit_second, limit_third, rate_limiter_first, rate_limiter_second, rate_limiter_third, product_first, product_second}
-use Rattle.cert_rules.proofs.ArithProducts.{near_product, within_reach, reach_positive}
+use Rattle.cert_rules.proofs.ArithProducts.{near_product, within_magnitude, magnitude_positive}
 use Rattle.cert_rules.proofs.ArithDivisors.{stays_away}
 use Rattle.cert_rules.proofs.ArithQuotients.{divides, near_shifted, near_scaled}
 use Rattle.cert_rules.proofs.ArithQuotientValues.{rounded-divided, int_div-error, between_quotients, quotient_first, quotient_second, one_sided_divisor}
@@ -301,7 +301,7 @@ div_keeps shift given m e away w =
     let y = w 1 (omega arith) in
     let side = (stays_away (given 1) away).side in
     let some : 1 ≤ unsigned_abs (m 1) = machine_divisor (given 1) (m 1) (e 1) away y in
-    let d = divides (m 0) (m 1) (e 0) (e 1) (reach (given 0)) (given 0).err (given 1) (reach_positive (given 0)) (within_reach (given 0) (m 0) (e 0) x) (near _ _ _ x) y away in
+    let d = divides (m 0) (m 1) (e 0) (e 1) (magnitude (given 0)) (given 0).err (given 1) (magnitude_positive (given 0)) (within_magnitude (given 0) (m 0) (e 0) x) (near _ _ _ x) y away in
     record {
       machine_divides = not_zero (m 1) some;
       exact_divides = d.divisor;
@@ -316,8 +316,8 @@ div_keeps shift given m e away w =
 shifted_over : (shift : ℕ) (x y : ℤ) → 1 ≤ unsigned_abs y → rounded_fraction Zero (divided (times (whole x) (whole (power shift))) (whole y)) ≡ int_div (x *ℤ power shift) y
 shifted_over shift x y some = rounded-divided _ (x *ℤ power shift) y (times-whole x (power shift)) some
 
-pub shifted_reach : (b : Bounds) (m : ℤ) (k : ℕ) → unsigned_abs m ≤ unsigned_abs (reach b) → unsigned_abs (m *ℤ pos k) ≤ unsigned_abs (reach b *ℤ pos k)
-shifted_reach b m k h = rw (unsigned_abs-mul_pos m k, unsigned_abs-mul_pos (reach b) k) (mul-le-mul_right k h)
+pub shifted_magnitude : (b : Bounds) (m : ℤ) (k : ℕ) → unsigned_abs m ≤ unsigned_abs (magnitude b) → unsigned_abs (m *ℤ pos k) ≤ unsigned_abs (magnitude b *ℤ pos k)
+shifted_magnitude b m k h = rw (unsigned_abs-mul_pos m k, unsigned_abs-mul_pos (magnitude b) k) (mul-le-mul_right k h)
 
 pub div_sh_left_keeps : (shift : ℕ) (given : ℕ → Bounds) (m : ℕ → ℤ) (e : ℕ → Fraction) → may_be_zero (given 1) ≡ false → AreWithin DivShLeft given m e → KeepsRule DivShLeft shift given m e
 unfolding arith_values
@@ -326,9 +326,9 @@ div_sh_left_keeps shift given m e away w =
     let y = w 1 (omega arith) in
     let side = (stays_away (given 1) away).side in
     let some : 1 ≤ unsigned_abs (m 1) = machine_divisor (given 1) (m 1) (e 1) away y in
-    let top : pos 0 ≤ℤ (reach (given 0) *ℤ power shift) = int_mul_not_negative _ _ (reach_positive (given 0)) (int_le-pos _ _ (omega arith)) in
-    let size = shifted_reach (given 0) (m 0) (2 ^ shift) (within_reach (given 0) (m 0) (e 0) x) in
-    let d = divides (m 0 *ℤ power shift) (m 1) (times (e 0) (whole (power shift))) (e 1) (reach (given 0) *ℤ power shift) ((given 0).err *ℤ power shift) (given 1) top size (near_scaled (2 ^ shift) (m 0) (given 0).err (e 0) (near _ _ _ x)) y away in
+    let top : pos 0 ≤ℤ (magnitude (given 0) *ℤ power shift) = int_mul_not_negative _ _ (magnitude_positive (given 0)) (int_le-pos _ _ (omega arith)) in
+    let size = shifted_magnitude (given 0) (m 0) (2 ^ shift) (within_magnitude (given 0) (m 0) (e 0) x) in
+    let d = divides (m 0 *ℤ power shift) (m 1) (times (e 0) (whole (power shift))) (e 1) (magnitude (given 0) *ℤ power shift) ((given 0).err *ℤ power shift) (given 1) top size (near_scaled (2 ^ shift) (m 0) (given 0).err (e 0) (near _ _ _ x)) y away in
     record {
       machine_divides = not_zero (m 1) some;
       exact_divides = d.divisor;
@@ -343,8 +343,8 @@ div_sh_left_keeps shift given m e away w =
 product_over : (x y z : ℤ) → 1 ≤ unsigned_abs z → rounded_fraction Zero (divided (times (whole x) (whole y)) (whole z)) ≡ int_div (x *ℤ y) z
 product_over x y z some = rounded-divided _ (x *ℤ y) z (times-whole x y) some
 
-product_reach : (a b : Bounds) (m n : ℤ) → unsigned_abs m ≤ unsigned_abs (reach a) → unsigned_abs n ≤ unsigned_abs (reach b) → unsigned_abs (m *ℤ n) ≤ unsigned_abs (reach a *ℤ reach b)
-product_reach a b m n h k = rw (unsigned_abs-mul m n, unsigned_abs-mul (reach a) (reach b)) (mul-le-mul h k)
+product_magnitude : (a b : Bounds) (m n : ℤ) → unsigned_abs m ≤ unsigned_abs (magnitude a) → unsigned_abs n ≤ unsigned_abs (magnitude b) → unsigned_abs (m *ℤ n) ≤ unsigned_abs (magnitude a *ℤ magnitude b)
+product_magnitude a b m n h k = rw (unsigned_abs-mul m n, unsigned_abs-mul (magnitude a) (magnitude b)) (mul-le-mul h k)
 
 pub mul_div_keeps : (shift : ℕ) (given : ℕ → Bounds) (m : ℕ → ℤ) (e : ℕ → Fraction) → may_be_zero (given 2) ≡ false → AreWithin MulDiv given m e → KeepsRule MulDiv shift given m e
 unfolding arith_values
@@ -354,9 +354,9 @@ mul_div_keeps shift given m e away w =
     let z = w 2 (omega arith) in
     let side = (stays_away (given 2) away).side in
     let some : 1 ≤ unsigned_abs (m 2) = machine_divisor (given 2) (m 2) (e 2) away z in
-    let top : pos 0 ≤ℤ (reach (given 0) *ℤ reach (given 1)) = int_mul_not_negative _ _ (reach_positive (given 0)) (reach_positive (given 1)) in
-    let size = product_reach (given 0) (given 1) (m 0) (m 1) (within_reach (given 0) (m 0) (e 0) x) (within_reach (given 1) (m 1) (e 1) y) in
-    let d = divides (m 0 *ℤ m 1) (m 2) (times (e 0) (e 1)) (e 2) (reach (given 0) *ℤ reach (given 1)) (product_error (given 0) (given 1)) (given 2) top size (near_product (given 0) (given 1) (m 0) (m 1) (e 0) (e 1) x y) z away in
+    let top : pos 0 ≤ℤ (magnitude (given 0) *ℤ magnitude (given 1)) = int_mul_not_negative _ _ (magnitude_positive (given 0)) (magnitude_positive (given 1)) in
+    let size = product_magnitude (given 0) (given 1) (m 0) (m 1) (within_magnitude (given 0) (m 0) (e 0) x) (within_magnitude (given 1) (m 1) (e 1) y) in
+    let d = divides (m 0 *ℤ m 1) (m 2) (times (e 0) (e 1)) (e 2) (magnitude (given 0) *ℤ magnitude (given 1)) (product_error (given 0) (given 1)) (given 2) top size (near_product (given 0) (given 1) (m 0) (m 1) (e 0) (e 1) x y) z away in
     record {
       machine_divides = not_zero (m 2) some;
       exact_divides = d.divisor;

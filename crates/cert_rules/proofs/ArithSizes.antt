@@ -12,7 +12,7 @@ use Rattle.fx_core.proofs.Integers.{less_of_products}
 use Rattle.fx_core.proofs.RoundingLaws.{least_quotient_above_bounds}
 use Rattle.cert_rules.specs.declared.bounds.Bounds.{Bounds}
 use Rattle.cert_rules.specs.Entries.{IsSmall}
-use Rattle.cert_rules.specs.ArithRules.{reach, least_reach, may_be_zero, product_error, shifted_error}
+use Rattle.cert_rules.specs.ArithRules.{magnitude, mignitude, may_be_zero, product_error, shifted_error}
 use Rattle.cert_rules.proofs.ArithProducts.{above_positive}
 use Rattle.cert_rules.proofs.ArithDivisors.{stays_away}
 use Rattle.cert_rules.proofs.ArithCornerValues.{word}
@@ -51,7 +51,7 @@ pub record ProductWords (x y : Bounds) (p s q : ℤ) : Type 0 where
   pub third_high : q ≤ℤ pos (2 ^ 64)
   pub value : p +ℤ s +ℤ q ≡ product_error x y
 
--- the product of a reach and an error, as words gave it
+-- the product of a magnitude and an error, as words gave it
 weighted : (r e r' e' p : ℤ) → pos 0 ≤ℤ r → r <ℤ pos (2 ^ 32) → pos 0 ≤ℤ e' → e' <ℤ pos (2 ^ 40) → r ≡ r' → e ≡ e' → p ≡ word r *ℤ word e → (p ≡ r' *ℤ e') × (pos 0 ≤ℤ p) × (p ≤ℤ pos (2 ^ 72))
 weighted r e r' e' p low high low' high' h k i =
     let plain : word r ≡ r = omega (arith, ints, low, high) in
@@ -60,11 +60,11 @@ weighted r e r' e' p low high low' high' h k i =
     let size : (r *ℤ e') ≤ℤ pos (2 ^ 32 * 2 ^ 40) = product_size r e' (2 ^ 32) (2 ^ 40) low low' (omega (arith, ints, high)) (omega (arith, ints, high')) in
     (value ∙ ap (λ t. t *ℤ e') h, rw value (int_mul_not_negative r e' low low'), rw value size)
 
-pub product_words : (x y : Bounds) (rx ry ex ey p s b q : ℤ) → IsSmall x → IsSmall y → pos 0 ≤ℤ rx → rx <ℤ pos (2 ^ 32) → pos 0 ≤ℤ ry → ry <ℤ pos (2 ^ 32) → rx ≡ reach x → ry ≡ reach y → ex ≡ x.err → ey ≡ y.err → p ≡ word rx *ℤ word ey → s ≡ word ry *ℤ word ex → b ≡ word ex *ℤ word ey → q ≡ least_quotient_above (word b) (pos 65536) → ProductWords x y p s q
+pub product_words : (x y : Bounds) (rx ry ex ey p s b q : ℤ) → IsSmall x → IsSmall y → pos 0 ≤ℤ rx → rx <ℤ pos (2 ^ 32) → pos 0 ≤ℤ ry → ry <ℤ pos (2 ^ 32) → rx ≡ magnitude x → ry ≡ magnitude y → ex ≡ x.err → ey ≡ y.err → p ≡ word rx *ℤ word ey → s ≡ word ry *ℤ word ex → b ≡ word ex *ℤ word ey → q ≡ least_quotient_above (word b) (pos 65536) → ProductWords x y p s q
 unfolding product_error
 product_words x y rx ry ex ey p s b q small small' low high low' high' hx hy kx ky ip is ib iq =
-    let first = weighted rx ey (reach x) y.err p low high small'.positive small'.near hx ky ip in
-    let second = weighted ry ex (reach y) x.err s low' high' small.positive small.near hy kx is in
+    let first = weighted rx ey (magnitude x) y.err p low high small'.positive small'.near hx ky ip in
+    let second = weighted ry ex (magnitude y) x.err s low' high' small.positive small.near hy kx is in
     let ex_low = small.positive in
     let ex_high = small.near in
     let ey_low = small'.positive in
@@ -156,9 +156,9 @@ pub record DividendWords (top err : ℤ) (y : Bounds) (p s : ℤ) : Type 0 where
   pub first_high : p ≤ℤ pos (2 ^ 104)
   pub second_low : pos 0 ≤ℤ s
   pub second_high : s ≤ℤ pos (2 ^ 106)
-  pub value : p +ℤ s ≡ top *ℤ y.err +ℤ least_reach y *ℤ err
+  pub value : p +ℤ s ≡ top *ℤ y.err +ℤ mignitude y *ℤ err
 
-pub dividend_words : (top err : ℤ) (y : Bounds) (least ye p s : ℤ) → IsSmall y → pos 0 ≤ℤ top → top <ℤ pos (2 ^ 64) → pos 0 ≤ℤ err → err <ℤ pos (2 ^ 74) → pos 0 ≤ℤ least → least <ℤ pos (2 ^ 32) → least ≡ least_reach y → ye ≡ y.err → p ≡ word top *ℤ word ye → s ≡ word err *ℤ word least → DividendWords top err y p s
+pub dividend_words : (top err : ℤ) (y : Bounds) (least ye p s : ℤ) → IsSmall y → pos 0 ≤ℤ top → top <ℤ pos (2 ^ 64) → pos 0 ≤ℤ err → err <ℤ pos (2 ^ 74) → pos 0 ≤ℤ least → least <ℤ pos (2 ^ 32) → least ≡ mignitude y → ye ≡ y.err → p ≡ word top *ℤ word ye → s ≡ word err *ℤ word least → DividendWords top err y p s
 dividend_words top err y least ye p s small tl th el eh ll lh least_is err_is ip is =
     let yl = small.positive in
     let yh = small.near in
@@ -220,26 +220,26 @@ dividend_high w =
     let d = w.second_high in
     omega (arith, ints, b, d)
 
--- what is left of 65536 times the least reach of a divisor that may not be 0
+-- what is left of 65536 times the least magnitude of a divisor that may not be 0
 pub record DivisorWords (y : Bounds) (least ye : ℤ) : Type 0 where
-  pub plain : word least ≡ least_reach y
-  pub left : word (word (pos 65536 *ℤ word least) -ℤ word ye) ≡ pos 65536 *ℤ least_reach y -ℤ y.err
-  pub low : pos 1 ≤ℤ (pos 65536 *ℤ least_reach y -ℤ y.err)
-  pub some : pos 1 ≤ℤ least_reach y
+  pub plain : word least ≡ mignitude y
+  pub left : word (word (pos 65536 *ℤ word least) -ℤ word ye) ≡ pos 65536 *ℤ mignitude y -ℤ y.err
+  pub low : pos 1 ≤ℤ (pos 65536 *ℤ mignitude y -ℤ y.err)
+  pub some : pos 1 ≤ℤ mignitude y
 
 least_word : (least : ℤ) (n : ℕ) → least ≡ pos n → n < 2 ^ 32 → word least ≡ pos n
 least_word least n h k = rw h (omega (arith, ints, k))
 
-pub divisor_words : (y : Bounds) (least ye : ℤ) → IsSmall y → may_be_zero y ≡ false → pos 0 ≤ℤ least → least <ℤ pos (2 ^ 32) → least ≡ least_reach y → ye ≡ y.err → DivisorWords y least ye
+pub divisor_words : (y : Bounds) (least ye : ℤ) → IsSmall y → may_be_zero y ≡ false → pos 0 ≤ℤ least → least <ℤ pos (2 ^ 32) → least ≡ mignitude y → ye ≡ y.err → DivisorWords y least ye
 divisor_words y least ye small away ll lh least_is err_is =
     let a = stays_away y away in
     let yl = small.positive in
     let yh = small.near in
-    let n = unsigned_abs (least_reach y) in
-    let is : least_reach y ≡ pos n = a.is in
+    let n = unsigned_abs (mignitude y) in
+    let is : mignitude y ≡ pos n = a.is in
     let below : y.err <ℤ pos (65536 * n) = a.error in
-    let ll' : pos 0 ≤ℤ least_reach y = rw (← least_is) ll in
-    let lh' : least_reach y <ℤ pos (2 ^ 32) = rw (← least_is) lh in
+    let ll' : pos 0 ≤ℤ mignitude y = rw (← least_is) ll in
+    let lh' : mignitude y <ℤ pos (2 ^ 32) = rw (← least_is) lh in
     let nh : n < 2 ^ 32 = omega (arith, ints, lh') in
     let plain : word least ≡ pos n = least_word least n (least_is ∙ is) nh in
     let plain' : word ye ≡ y.err = rw err_is (omega (arith, ints, yl, yh)) in
@@ -251,9 +251,9 @@ divisor_words y least ye small away ll lh least_is err_is =
       some = rw is (omega (arith, ints, below, yl));
     }
 
-pub divisor_high : (y : Bounds) (least ye q : ℤ) → DivisorWords y least ye → least <ℤ pos (2 ^ 32) → least ≡ least_reach y → pos 0 ≤ℤ y.err → ((m n : ℕ) → word least ≤ℤ pos m → word (word (pos 65536 *ℤ word least) -ℤ word ye) ≤ℤ pos n → q ≤ℤ pos (m * n)) → FitsSigned w128 q → word q <ℤ pos (2 ^ 81)
+pub divisor_high : (y : Bounds) (least ye q : ℤ) → DivisorWords y least ye → least <ℤ pos (2 ^ 32) → least ≡ mignitude y → pos 0 ≤ℤ y.err → ((m n : ℕ) → word least ≤ℤ pos m → word (word (pos 65536 *ℤ word least) -ℤ word ye) ≤ℤ pos n → q ≤ℤ pos (m * n)) → FitsSigned w128 q → word q <ℤ pos (2 ^ 81)
 divisor_high y least ye q w high is positive size fits =
-    let high' : least_reach y <ℤ pos (2 ^ 32) = rw (← is) high in
+    let high' : mignitude y <ℤ pos (2 ^ 32) = rw (← is) high in
     let first : word least ≤ℤ pos (2 ^ 32) = rw w.plain (omega (arith, ints, high')) in
     let second : word (word (pos 65536 *ℤ word least) -ℤ word ye) ≤ℤ pos (2 ^ 48) = rw w.left (omega (arith, ints, high', positive)) in
     rw (to_z-of_z w128 q fits) (is_below q (2 ^ 32 * 2 ^ 48) (2 ^ 81) (size _ _ first second) (lit< tt))
@@ -334,8 +334,8 @@ pub record Factors (a b p : ℤ) (limit : ℕ) : Type 0 where
   pub high : word p <ℤ pos limit
 
 -- of two numbers of 32 bits
-pub reach_factors : (r s a b p : ℤ) → pos 0 ≤ℤ r → r <ℤ pos (2 ^ 32) → pos 0 ≤ℤ s → s <ℤ pos (2 ^ 32) → r ≡ a → s ≡ b → FitsSigned w128 p → p ≡ word r *ℤ word s → Factors a b p (2 ^ 64)
-reach_factors r s a b p rl rh sl sh h k fits i =
+pub magnitude_factors : (r s a b p : ℤ) → pos 0 ≤ℤ r → r <ℤ pos (2 ^ 32) → pos 0 ≤ℤ s → s <ℤ pos (2 ^ 32) → r ≡ a → s ≡ b → FitsSigned w128 p → p ≡ word r *ℤ word s → Factors a b p (2 ^ 64)
+magnitude_factors r s a b p rl rh sl sh h k fits i =
     let w = word_product r s r s p 4294967295 4294967295 refl refl rl (omega (arith, ints, rh)) sl (omega (arith, ints, sh)) (lit< tt) (lit< tt) i in
     let plain : word p ≡ p = to_z-of_z w128 p fits in
     let high = w.2 in

@@ -1,4 +1,4 @@
--- Where the entry of a wire stands, and how small sound entries are.
+-- Where the entry of a wire stands, and how small allowed entries are.
 use Rattle.std.proofs.Common.{◌≡◌, ℕ, ◌<◌, ◌≤◌, ◌^◌, Bool, true, ◌&&◌, List, length, get_or, ℤ, pos, negsuc, ◌≤ℤ◌, int_le, int_lt, sym, ap, ◌∙◌, subst, FitsSigned, to_z, of_z, w64}
 use Rattle.std.proofs.lemmas.Bool.{and_parts}
 use Rattle.std.proofs.lemmas.Int.{to_z-of_z}
@@ -17,9 +17,9 @@ use Rattle.net_model.specs.Validity.{IsValid}
 use Rattle.net_model.proofs.ValidityFacts.{get_or-parts_of, length-parts_of, place_in-parts_of, point_of-valid}
 use Rattle.cert_rules.specs.declared.bounds.Bounds.{Bounds}
 use Rattle.cert_rules.specs.Certificates.{no_bounds, entry_of}
-use Rattle.cert_rules.specs.Rules.{is_allowed, part_least, part_greatest}
-use Rattle.cert_rules.specs.Acceptance.{is_sound_at, part_at, entry_at}
-use Rattle.cert_rules.specs.Entries.{AreSound, IsSmall}
+use Rattle.cert_rules.specs.Rules.{is_allowed, is_between_ends, part_least, part_greatest}
+use Rattle.cert_rules.specs.Acceptance.{AreAllowed, is_allowed_at, part_at, entry_at}
+use Rattle.cert_rules.specs.Entries.{IsSmall}
 
 -- ---- the entry of a wire's value has the wire's number
 
@@ -27,7 +27,7 @@ pub entry_of-value : (wires : List Wire) (entries : List Bounds) (w : ℕ) → w
 unfolding entry_of
 entry_of-value wires entries w h = ap (λ k. get_or entries k no_bounds) (place_in-parts_of wires w h)
 
--- ---- sound entries are small
+-- ---- allowed entries are small
 
 least_of-low : (t : Ty) → negsuc 2147483647 ≤ℤ least_of t
 least_of-low U8 = record { le = tt }
@@ -59,49 +59,63 @@ three_tests a b c h =
     let h2 = and_parts a b h1.0 in
     (h2.0, h2.1, h1.1)
 
-small_from_tests : (kind : Kind) (role : Role) (b : Bounds) → is_allowed kind role b ≡ true → int_le b.lo b.hi ≡ true → int_le (pos 0) b.err ≡ true → IsSmall b
+-- what the tests of bounds say
+pub record AreBetween (kind : Kind) (b : Bounds) : Type 0 where
+  pub low : kind_least kind ≤ℤ b.lo
+  pub high : b.hi ≤ℤ kind_greatest kind
+  pub near : int_lt b.err (pos (2 ^ 40)) ≡ true
+
+pub are_between : (kind : Kind) (b : Bounds) → is_allowed kind Value b ≡ true → AreBetween kind b
 unfolding is_allowed
-small_from_tests kind Value b h order positive =
-    let t = three_tests _ _ _ h in
+are_between kind b h =
+    let t = three_tests (is_between_ends kind Value b.lo) (is_between_ends kind Value b.hi) (int_lt b.err (pos (2 ^ 40))) h in
+    let low = and_parts (int_le (kind_least kind) b.lo) (int_le b.lo (kind_greatest kind)) t.0 in
+    let high = and_parts (int_le (kind_least kind) b.hi) (int_le b.hi (kind_greatest kind)) t.1 in
     record {
-      low = int_le_trans _ _ _ (kind_least-low kind) (int_le-true (kind_least kind) b.lo t.0);
-      ordered = int_le-true b.lo b.hi order;
-      high = int_le_trans _ _ _ (int_le-true b.hi (kind_greatest kind) t.1) (kind_greatest-high kind);
-      positive = int_le-true (pos 0) b.err positive;
-      near = int_lt-true b.err (pos (2 ^ 40)) t.2;
+      low = int_le-true (kind_least kind) b.lo low.0;
+      high = int_le-true b.hi (kind_greatest kind) high.1;
+      near = t.2;
     }
 
-pub small_from_sound : (wires : List Wire) (entries : List Bounds) (k : ℕ) → is_sound_at wires entries k ≡ true → IsSmall (entry_at entries k)
-unfolding is_sound_at
-small_from_sound wires entries k h =
+small_from_tests : (kind : Kind) (role : Role) (b : Bounds) → is_allowed kind role b ≡ true → int_le b.lo b.hi ≡ true → int_le (pos 0) b.err ≡ true → IsSmall b
+small_from_tests kind Value b h order positive =
+    let t = are_between kind b h in
+    record {
+      low = int_le_trans _ _ _ (kind_least-low kind) t.low;
+      ordered = int_le-true b.lo b.hi order;
+      high = int_le_trans _ _ _ t.high (kind_greatest-high kind);
+      positive = int_le-true (pos 0) b.err positive;
+      near = int_lt-true b.err (pos (2 ^ 40)) t.near;
+    }
+
+pub small_from_allowed : (wires : List Wire) (entries : List Bounds) (k : ℕ) → is_allowed_at wires entries k ≡ true → IsSmall (entry_at entries k)
+unfolding is_allowed_at
+small_from_allowed wires entries k h =
     let t = three_tests _ _ _ h in
     small_from_tests _ _ (entry_at entries k) t.0 t.1 t.2
 
-pub small_entry : (wires : List Wire) (entries : List Bounds) → AreSound wires entries → (w : ℕ) → w < length wires → IsSmall (entry_at entries w)
-small_entry wires entries sound w h =
-    small_from_sound wires entries w (sound w (rw (length-parts_of wires) h))
+pub small_entry : (wires : List Wire) (entries : List Bounds) → AreAllowed wires entries → (w : ℕ) → w < length wires → IsSmall (entry_at entries w)
+small_entry wires entries allowed w h =
+    small_from_allowed wires entries w (allowed w (rw (length-parts_of wires) h))
 
--- a sound entry isn't below its wire's kind
+-- a allowed entry isn't below its wire's kind
 low_from_tests : (kind : Kind) (role : Role) (b : Bounds) → is_allowed kind role b ≡ true → kind_least kind ≤ℤ b.lo
-unfolding is_allowed
-low_from_tests kind Value b h =
-    let t = three_tests (int_le (kind_least kind) b.lo) _ _ h in
-    int_le-true (kind_least kind) b.lo t.0
+low_from_tests kind Value b h = (are_between kind b h).low
 
-low_from_sound : (wires : List Wire) (entries : List Bounds) (k : ℕ) → is_sound_at wires entries k ≡ true → kind_least (wire_at wires (part_at wires k).wire.0).kind ≤ℤ (entry_at entries k).lo
-unfolding is_sound_at
-low_from_sound wires entries k h =
+low_from_allowed : (wires : List Wire) (entries : List Bounds) (k : ℕ) → is_allowed_at wires entries k ≡ true → kind_least (wire_at wires (part_at wires k).wire.0).kind ≤ℤ (entry_at entries k).lo
+unfolding is_allowed_at
+low_from_allowed wires entries k h =
     let t = three_tests _ _ _ h in
     low_from_tests _ _ (entry_at entries k) t.0
 
-pub entry_low : (wires : List Wire) (entries : List Bounds) → AreSound wires entries → (w : ℕ) → w < length wires → kind_least (wire_at wires w).kind ≤ℤ (entry_of wires entries w Value).lo
-entry_low wires entries sound w h =
-    let low = low_from_sound wires entries w (sound w (rw (length-parts_of wires) h)) in
+pub entry_low : (wires : List Wire) (entries : List Bounds) → AreAllowed wires entries → (w : ℕ) → w < length wires → kind_least (wire_at wires w).kind ≤ℤ (entry_of wires entries w Value).lo
+entry_low wires entries allowed w h =
+    let low = low_from_allowed wires entries w (allowed w (rw (length-parts_of wires) h)) in
     let at_wire : kind_least (wire_at wires w).kind ≤ℤ (entry_at entries w).lo = subst (λ (p : Part). kind_least (wire_at wires p.wire.0).kind ≤ℤ (entry_at entries w).lo) (get_or-parts_of wires w h) low in
     rw (entry_of-value wires entries w h) at_wire
 
--- the three tests of bounds, whatever the role
-pub allowed_from_tests : (kind : Kind) (role : Role) (b : Bounds) (least greatest : ℤ) (t : Bool) → FitsSigned w64 least → FitsSigned w64 greatest → least ≡ part_least kind Value → greatest ≡ part_greatest kind Value → t ≡ (int_le (to_z w64 (of_z w64 least)) b.lo && int_le b.hi (to_z w64 (of_z w64 greatest)) && int_lt b.err (pos (2 ^ 40))) → t ≡ is_allowed kind role b
+-- the tests of bounds, whatever the role
+pub allowed_from_tests : (kind : Kind) (role : Role) (b : Bounds) (least greatest : ℤ) (t : Bool) → FitsSigned w64 least → FitsSigned w64 greatest → least ≡ part_least kind Value → greatest ≡ part_greatest kind Value → t ≡ ((int_le (to_z w64 (of_z w64 least)) b.lo && int_le b.lo (to_z w64 (of_z w64 greatest))) && (int_le (to_z w64 (of_z w64 least)) b.hi && int_le b.hi (to_z w64 (of_z w64 greatest))) && int_lt b.err (pos (2 ^ 40))) → t ≡ is_allowed kind role b
 unfolding is_allowed
 allowed_from_tests kind Value b least greatest t f g p q e =
     let plain = rw (to_z-of_z w64 least f, to_z-of_z w64 greatest g) at e in

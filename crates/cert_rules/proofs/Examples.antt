@@ -16,7 +16,7 @@ use Rattle.cert_rules.specs.Certificates.{entry_of}
 use Rattle.cert_rules.specs.ArithRules.{arith_bounds, arith_values, product_error, quotient_error, shifted_error}
 use Rattle.cert_rules.specs.ScaledRules.{scaled_bounds, scaled_values}
 use Rattle.cert_rules.specs.Rules.{proposed, rule_of, is_allowed}
-use Rattle.cert_rules.specs.Acceptance.{is_sound_at, is_inductive_at, first_failing, first_rejected}
+use Rattle.cert_rules.specs.Acceptance.{is_allowed_at, is_inductive_at, first_failing, first_rejected}
 
 wires : List Wire
 wires =
@@ -33,15 +33,15 @@ entries error highest =
     record { lo = negsuc 9; hi = pos highest; err = pos 65536 } ∷ []
 
 accepted : first_rejected wires (entries 65536 1010) ≡ None
-unfolding wires entries first_rejected first_failing is_sound_at is_inductive_at rule_of is_allowed proposed scaled_bounds scaled_values shifted_error arith_bounds arith_values entry_of point_factor rounded least_quotient_above whole over plus times
+unfolding wires entries first_rejected first_failing is_allowed_at is_inductive_at rule_of is_allowed proposed scaled_bounds scaled_values shifted_error arith_bounds arith_values entry_of point_factor rounded least_quotient_above whole over plus times
 accepted = refl
 
 error_too_small : first_rejected wires (entries 65535 1010) ≡ Some 2
-unfolding wires entries first_rejected first_failing is_sound_at is_inductive_at rule_of is_allowed proposed scaled_bounds scaled_values shifted_error arith_bounds arith_values entry_of point_factor rounded least_quotient_above whole over plus times
+unfolding wires entries first_rejected first_failing is_allowed_at is_inductive_at rule_of is_allowed proposed scaled_bounds scaled_values shifted_error arith_bounds arith_values entry_of point_factor rounded least_quotient_above whole over plus times
 error_too_small = refl
 
 range_too_small : first_rejected wires (entries 65536 1009) ≡ Some 3
-unfolding wires entries first_rejected first_failing is_sound_at is_inductive_at rule_of is_allowed proposed scaled_bounds scaled_values shifted_error arith_bounds arith_values entry_of point_factor rounded least_quotient_above whole over plus times
+unfolding wires entries first_rejected first_failing is_allowed_at is_inductive_at rule_of is_allowed proposed scaled_bounds scaled_values shifted_error arith_bounds arith_values entry_of point_factor rounded least_quotient_above whole over plus times
 range_too_small = refl
 
 -- a product and a quotient of `x` and `z`: a quotient is rounded, so its error is one raw count
@@ -60,14 +60,14 @@ quotient_entries lowest error =
     record { lo = negsuc 0; hi = pos 2; err = pos error } ∷ []
 
 quotient_accepted : first_rejected quotient_wires (quotient_entries (pos 2) 65536) ≡ None
-unfolding quotient_wires quotient_entries first_rejected first_failing is_sound_at is_inductive_at rule_of is_allowed proposed arith_bounds arith_values product_error quotient_error entry_of rounded least_quotient_above quotient divided whole times
+unfolding quotient_wires quotient_entries first_rejected first_failing is_allowed_at is_inductive_at rule_of is_allowed proposed arith_bounds arith_values product_error quotient_error entry_of rounded least_quotient_above quotient divided whole times
 quotient_accepted = refl
 
 quotient_error_too_small : first_rejected quotient_wires (quotient_entries (pos 2) 65535) ≡ Some 3
-unfolding quotient_wires quotient_entries first_rejected first_failing is_sound_at is_inductive_at rule_of is_allowed proposed arith_bounds arith_values product_error quotient_error entry_of rounded least_quotient_above quotient divided whole times
+unfolding quotient_wires quotient_entries first_rejected first_failing is_allowed_at is_inductive_at rule_of is_allowed proposed arith_bounds arith_values product_error quotient_error entry_of rounded least_quotient_above quotient divided whole times
 quotient_error_too_small = refl
 
 -- an entry of `z` that holds 0 lets the divisor be 0, so that no entry of `q` is accepted
 divisor_may_be_zero : first_failing (is_inductive_at quotient_wires (quotient_entries (pos 0) 65536)) 3 1 ≡ Some 3
-unfolding quotient_wires quotient_entries first_rejected first_failing is_sound_at is_inductive_at rule_of is_allowed proposed arith_bounds arith_values product_error quotient_error entry_of rounded least_quotient_above quotient divided whole times
+unfolding quotient_wires quotient_entries first_rejected first_failing is_allowed_at is_inductive_at rule_of is_allowed proposed arith_bounds arith_values product_error quotient_error entry_of rounded least_quotient_above quotient divided whole times
 divisor_may_be_zero = refl

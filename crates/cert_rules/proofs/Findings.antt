@@ -14,8 +14,7 @@ use Rattle.fx_core.proofs.WordSteps.{word_of}
 use Rattle.cert_rules.specs.declared.bounds.Bounds.{Bounds}
 use Rattle.cert_rules.specs.Certificates.{entry_of}
 use Rattle.cert_rules.specs.Rules.{is_allowed, rule_of}
-use Rattle.cert_rules.specs.Acceptance.{entry_at, first_failing, first_rejected, is_inductive_at, is_sound_at, lies_inside, or_later, part_at, start_of, starts_inside}
-use Rattle.cert_rules.specs.Entries.{AreSound}
+use Rattle.cert_rules.specs.Acceptance.{AreAllowed, entry_at, first_failing, first_rejected, is_inductive_at, is_allowed_at, lies_inside, or_later, part_at, start_of, starts_inside}
 
 -- ---- one step of the search
 
@@ -58,20 +57,20 @@ all_pass_from test k zero i e h l = absurd (omega arith)
 all_pass_from test k (suc m) i e h l =
     none_case test k m i (test k) refl (sym (first_failing-step test k m) ∙ e) (λ f g. let up : suc k ≤ i = omega arith in let end : i < suc k + m = omega arith in all_pass_from test (suc k) m i f up end) h
 
--- where no entry fails the first test each is sound
-pub sound_from_none : (wires : List Wire) (entries : List Bounds) (found : Option PartNo) → option_map (λ p. p.0) found ≡ first_failing (is_sound_at wires entries) 0 (length (parts_of wires)) → found ≡ None → AreSound wires entries
-sound_from_none wires entries found e none k h =
-    let nothing : first_failing (is_sound_at wires entries) 0 (length (parts_of wires)) ≡ None = sym e ∙ ap (option_map (λ (p : PartNo). p.0)) none in
-    all_pass_from (is_sound_at wires entries) 0 (length (parts_of wires)) k nothing (omega arith) (omega arith)
+-- where no entry fails the first test each is allowed
+pub allowed_from_none : (wires : List Wire) (entries : List Bounds) (found : Option PartNo) → option_map (λ p. p.0) found ≡ first_failing (is_allowed_at wires entries) 0 (length (parts_of wires)) → found ≡ None → AreAllowed wires entries
+allowed_from_none wires entries found e none k h =
+    let nothing : first_failing (is_allowed_at wires entries) 0 (length (parts_of wires)) ≡ None = sym e ∙ ap (option_map (λ (p : PartNo). p.0)) none in
+    all_pass_from (is_allowed_at wires entries) 0 (length (parts_of wires)) k nothing (omega arith) (omega arith)
 
 -- ---- the two searches in turn
 
-pub rejected_first : (wires : List Wire) (entries : List Bounds) (found : Option PartNo) (k : PartNo) → option_map (λ p. p.0) found ≡ first_failing (is_sound_at wires entries) 0 (length (parts_of wires)) → found ≡ Some k → Some k.0 ≡ first_rejected wires entries
+pub rejected_first : (wires : List Wire) (entries : List Bounds) (found : Option PartNo) (k : PartNo) → option_map (λ p. p.0) found ≡ first_failing (is_allowed_at wires entries) 0 (length (parts_of wires)) → found ≡ Some k → Some k.0 ≡ first_rejected wires entries
 unfolding first_rejected
 rejected_first wires entries found k e is =
     ap (λ t. or_later t (first_failing (is_inductive_at wires entries) 0 (length (parts_of wires)))) (sym (ap (option_map (λ (p : PartNo). p.0)) is) ∙ e)
 
-pub rejected_later : (wires : List Wire) (entries : List Bounds) (found later : Option PartNo) → option_map (λ p. p.0) found ≡ first_failing (is_sound_at wires entries) 0 (length (parts_of wires)) → found ≡ None → option_map (λ p. p.0) later ≡ first_failing (is_inductive_at wires entries) 0 (length (parts_of wires)) → option_map (λ p. p.0) later ≡ first_rejected wires entries
+pub rejected_later : (wires : List Wire) (entries : List Bounds) (found later : Option PartNo) → option_map (λ p. p.0) found ≡ first_failing (is_allowed_at wires entries) 0 (length (parts_of wires)) → found ≡ None → option_map (λ p. p.0) later ≡ first_failing (is_inductive_at wires entries) 0 (length (parts_of wires)) → option_map (λ p. p.0) later ≡ first_rejected wires entries
 unfolding first_rejected
 rejected_later wires entries found later e is f =
     f ∙ ap (λ t. or_later t (first_failing (is_inductive_at wires entries) 0 (length (parts_of wires)))) (sym (ap (option_map (λ (p : PartNo). p.0)) is) ∙ e)
@@ -97,14 +96,14 @@ count_fits net valid =
 
 -- ---- the two tests of a part
 
-pub sound_when : (wires : List Wire) (entries : List Bounds) (k : ℕ) (t p : Bool) → t ≡ is_allowed (wire_at wires (part_at wires k).wire.0).kind (part_at wires k).role (entry_at entries k) → t ≡ true → p ≡ (int_le (entry_at entries k).lo (entry_at entries k).hi && int_le (pos 0) (entry_at entries k).err) → p ≡ is_sound_at wires entries k
-unfolding is_sound_at
-sound_when wires entries k t p e passed f =
+pub allowed_when : (wires : List Wire) (entries : List Bounds) (k : ℕ) (t p : Bool) → t ≡ is_allowed (wire_at wires (part_at wires k).wire.0).kind (part_at wires k).role (entry_at entries k) → t ≡ true → p ≡ (int_le (entry_at entries k).lo (entry_at entries k).hi && int_le (pos 0) (entry_at entries k).err) → p ≡ is_allowed_at wires entries k
+unfolding is_allowed_at
+allowed_when wires entries k t p e passed f =
     f ∙ ap (λ a. a && int_le (entry_at entries k).lo (entry_at entries k).hi && int_le (pos 0) (entry_at entries k).err) (sym passed ∙ e)
 
-pub sound_not : (wires : List Wire) (entries : List Bounds) (k : ℕ) (t : Bool) → t ≡ is_allowed (wire_at wires (part_at wires k).wire.0).kind (part_at wires k).role (entry_at entries k) → t ≡ false → t ≡ is_sound_at wires entries k
-unfolding is_sound_at
-sound_not wires entries k t e failed =
+pub allowed_not : (wires : List Wire) (entries : List Bounds) (k : ℕ) (t : Bool) → t ≡ is_allowed (wire_at wires (part_at wires k).wire.0).kind (part_at wires k).role (entry_at entries k) → t ≡ false → t ≡ is_allowed_at wires entries k
+unfolding is_allowed_at
+allowed_not wires entries k t e failed =
     failed ∙ ap (λ a. a && int_le (entry_at entries k).lo (entry_at entries k).hi && int_le (pos 0) (entry_at entries k).err) (sym failed ∙ e)
 
 pub inductive_some : (wires : List Wire) (entries : List Bounds) (k : ℕ) (found : Option Bounds) (given : Bounds) (t : Bool) → found ≡ rule_of wires (part_at wires k).wire.0 (part_at wires k).role (entry_of wires entries) → found ≡ Some given → t ≡ (int_le (entry_at entries k).lo given.lo && int_le given.hi (entry_at entries k).hi && int_le given.err (entry_at entries k).err) → t ≡ is_inductive_at wires entries k

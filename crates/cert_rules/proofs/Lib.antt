@@ -15,7 +15,7 @@ pub mod ArithHulls
 pub mod ArithValues
 pub mod ArithCornerValues
 pub mod ArithSizes
-pub mod ReachWords
+pub mod MagnitudeWords
 pub mod ArithCornerHulls
 pub mod ArithDivisorEnds
 pub mod ArithRoutines
@@ -29,7 +29,9 @@ pub mod ScaledSoundnessProof
 pub mod ScaledArguments
 pub mod ScaledCornerHulls
 pub mod ScaledCornerValues
+pub mod PartsRead
 pub mod RuleSoundness
+pub mod RulesLaw
 pub mod UnsignedSteps
 pub mod Places
 pub mod AcceptedEntries

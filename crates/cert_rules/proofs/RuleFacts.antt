@@ -1,9 +1,9 @@
 -- What the functions of the rules owe: that a block's arguments have entries, that these are small, and that the
 -- computed bounds are the definition's.
 use Rattle.std.proofs.Common.{◌≡◌, ℕ, ◌<◌, Bool, true, false, cond, List, length, ℤ, pos, ◌≤ℤ◌, refl, sym, ap, ap₂, ◌∙◌, arith, Option, Some, None, FitsSigned, to_z, of_z, w64}
-use Rattle.std.specs.Prelude.{◌≤◌, ◌^◌, ◌||◌, not, int_le, int_lt}
+use Rattle.std.specs.Prelude.{◌≤◌, ◌||◌, not, int_le}
 use Rattle.std.proofs.lemmas.Bool.{and_from, true≢false}
-use Rattle.fx_fraction.proofs.WholeNumbers.{int_le-false, int_le-true, int_le_trans}
+use Rattle.fx_fraction.proofs.WholeNumbers.{int_le-false, int_le_trans}
 use Rattle.std.proofs.lemmas.Int.{ints, to_z-of_z}
 use Rattle.fx_routines.specs.declared.operation.Variant.{Variant}
 use Rattle.fx_routines.specs.declared.operation.ArithOp.{ArithOp}
@@ -17,26 +17,25 @@ use Rattle.net_model.specs.declared.wires.Item.{Item}
 use Rattle.net_model.specs.declared.wires.Item.TheVariants.{Input, Const, Block as OfBlock}
 use Rattle.net_model.specs.declared.wires.Role.TheVariants.{Value}
 use Rattle.net_model.specs.declared.wires.Wire.{Wire}
-use Rattle.net_model.specs.Wires.{NetData, wire_at, kind_least, kind_greatest, argument_of, parts_of}
+use Rattle.net_model.specs.Wires.{NetData, wire_at, argument_of, parts_of}
 use Rattle.net_model.specs.Validity.{IsValid}
 use Rattle.net_meaning.specs.Blocks.{points_of}
+use Rattle.fx_core.specs.Arguments.{three, two}
+use Rattle.mfx_arith.specs.Operations.{is_smooth_operation}
 use Rattle.cert_rules.specs.declared.bounds.Bounds.{Bounds}
 use Rattle.cert_rules.specs.Certificates.{entry_of}
-use Rattle.cert_rules.specs.Rules.{allowed_of, arguments_of, bounds_of, if_allowed, is_allowed, may_fail, proposed, rule_of}
-use Rattle.cert_rules.specs.ArithCorners.{three}
-use Rattle.cert_rules.specs.ScaledCorners.{two}
+use Rattle.cert_rules.specs.Rules.{allowed_of, arguments_of, bounds_of, is_allowed, proposed, rule_of}
 use Rattle.cert_rules.specs.ScaledRules.{scaled_bounds, scaled_may_divide_by_zero}
 use Rattle.cert_rules.specs.ArithRules.{arith_bounds, arith_may_divide_by_zero}
-use Rattle.cert_rules.specs.ArithSoundness.{has_rule}
-use Rattle.cert_rules.specs.Acceptance.{entry_at}
-use Rattle.cert_rules.specs.Entries.{AreSound, IsSmall, if_small, is_small}
+use Rattle.cert_rules.specs.Acceptance.{AreAllowed, entry_at}
+use Rattle.cert_rules.specs.Entries.{IsSmall, if_small, is_small}
 use Rattle.cert_rules.proofs.ScaledArguments.{form_bounds_of_two, form_divisor_of_two, proper_form_bounds}
 use Rattle.cert_rules.proofs.ArithArguments.{bounds_of_three, divisor_of_three, proper_bounds}
 use Rattle.cert_rules.proofs.UnsignedSteps.{unsigned_step}
 use Rattle.cert_rules.proofs.AcceptanceLaws.{ruled_if_built}
 use Rattle.net_model.proofs.BuiltFacts.{shift_from_test}
 use Rattle.net_model.proofs.ValidityFacts.{argument_of-valid, arith-valid, length-parts_of}
-use Rattle.cert_rules.proofs.EntryFacts.{entry_of-value, kind_greatest-high, kind_least-low, small_entry, three_tests}
+use Rattle.cert_rules.proofs.EntryFacts.{are_between, entry_of-value, kind_greatest-high, kind_least-low, small_entry}
 
 -- ---- a block's arguments
 
@@ -45,7 +44,7 @@ argument_there net i b valid h is p = omega (arith, argument_of-valid net i b va
 
 -- a block of Mfx arithmetic has a rule, a count of places of at most 15, and three wires
 pub record ArithThere (net : NetData) (op : ArithOp) (x y z : WireNo) (sh : ℕ) : Type 0 where
-  pub ruled : has_rule op ≡ true
+  pub ruled : is_smooth_operation op ≡ true
   pub places : sh ≤ 15
   pub first : x.0 < length net.wires
   pub second : y.0 < length net.wires
@@ -72,12 +71,12 @@ scaled_there net i b op v x y valid h is case =
     let there = argument_there net i (Scaled op v x y) valid h (is ∙ ap OfBlock case) in
     record { first = there 0; second = there 1 }
 
--- a wire has an entry, and a sound one is small
+-- a wire has an entry, and a allowed one is small
 pub entry_there : (wires : List Wire) (entries : List Bounds) (w : ℕ) → length entries ≡ length (parts_of wires) → w < length wires → w < length entries
 entry_there wires entries w complete h = omega (arith, length-parts_of wires)
 
-pub entry_small : (wires : List Wire) (entries : List Bounds) (w : ℕ) (b : Bounds) → AreSound wires entries → w < length wires → b ≡ entry_at entries w → IsSmall b
-entry_small wires entries w b sound h e = rw e (small_entry wires entries sound w h)
+pub entry_small : (wires : List Wire) (entries : List Bounds) (w : ℕ) (b : Bounds) → AreAllowed wires entries → w < length wires → b ≡ entry_at entries w → IsSmall b
+entry_small wires entries w b allowed h e = rw e (small_entry wires entries allowed w h)
 
 -- ---- the bounds of a block
 
@@ -90,12 +89,12 @@ int_le-test a b true e h = e
 int_le-test a b false e h = absurd (omega (arith, ints, h, int_le-false a b e))
 
 pub is_small-from : (kind : Kind) (b : Bounds) → b.lo ≤ℤ b.hi → pos 0 ≤ℤ b.err → is_allowed kind Value b ≡ true → is_small b ≡ true
-unfolding is_allowed is_small
+unfolding is_small
 is_small-from kind b ordered positive h =
-    let t = three_tests (int_le (kind_least kind) b.lo) (int_le b.hi (kind_greatest kind)) (int_lt b.err (pos (2 ^ 40))) h in
-    let low = int_le_trans _ _ _ (kind_least-low kind) (int_le-true (kind_least kind) b.lo t.0) in
-    let high = int_le_trans _ _ _ (int_le-true b.hi (kind_greatest kind) t.1) (kind_greatest-high kind) in
-    and_from _ _ (and_from _ _ (and_from _ _ (and_from _ _ (int_le-test _ _ _ refl low) (int_le-test _ _ _ refl ordered)) (int_le-test _ _ _ refl high)) (int_le-test _ _ _ refl positive)) t.2
+    let t = are_between kind b h in
+    let low = int_le_trans _ _ _ (kind_least-low kind) t.low in
+    let high = int_le_trans _ _ _ t.high (kind_greatest-high kind) in
+    and_from _ _ (and_from _ _ (and_from _ _ (and_from _ _ (int_le-test _ _ _ refl low) (int_le-test _ _ _ refl ordered)) (int_le-test _ _ _ refl high)) (int_le-test _ _ _ refl positive)) t.near
 
 -- so leaving out the others leaves out nothing that is allowed
 leaves_out : (kind : Kind) (b : Bounds) (small is : Bool) → (is ≡ true → small ≡ true) → is_allowed kind Value b ≡ is → allowed_of kind Value (cond small (Some b) None) ≡ cond (is_allowed kind Value b) (Some b) None
@@ -112,14 +111,14 @@ arith_allowed kind true false b h proper =
 arith_allowed kind false divides b h proper = absurd (true≢false (sym h))
 
 -- the arguments of a block are small
-small_arguments : (net : NetData) (entries : List Bounds) (i : ℕ) (b : Block) → IsValid net → AreSound net.wires entries → i < length net.wires → (wire_at net.wires i).item ≡ OfBlock b → (p : ℕ) → IsSmall (arguments_of b (λ k. entry_of net.wires entries k Value) p)
-small_arguments net entries i b valid sound h is p =
+small_arguments : (net : NetData) (entries : List Bounds) (i : ℕ) (b : Block) → IsValid net → AreAllowed net.wires entries → i < length net.wires → (wire_at net.wires i).item ≡ OfBlock b → (p : ℕ) → IsSmall (arguments_of b (λ k. entry_of net.wires entries k Value) p)
+small_arguments net entries i b valid allowed h is p =
     let there = argument_there net i b valid h is p in
-    rw (entry_of-value net.wires entries (argument_of b p) there) (small_entry net.wires entries sound (argument_of b p) there)
+    rw (entry_of-value net.wires entries (argument_of b p) there) (small_entry net.wires entries allowed (argument_of b p) there)
 
-pub arith_returns : (net : NetData) (entries : List Bounds) (i : ℕ) (b : Block) (op : ArithOp) (v : Variant) (x y z : WireNo) (sh : ℕ) (r : Option Bounds) (first second third : Bounds) → IsValid net → AreSound net.wires entries → i < length net.wires → (wire_at net.wires i).item ≡ OfBlock b → b ≡ Arith op v x y z sh → first ≡ entry_at entries x.0 → second ≡ entry_at entries y.0 → third ≡ entry_at entries z.0 → r ≡ cond (arith_may_divide_by_zero op (three first second third)) None (if_small (arith_bounds op sh (three first second third))) → allowed_of (wire_at net.wires i).kind Value r ≡ allowed_of (wire_at net.wires i).kind Value (bounds_of net.wires (wire_at net.wires i).kind (OfBlock b) (λ k. entry_of net.wires entries k Value))
+pub arith_returns : (net : NetData) (entries : List Bounds) (i : ℕ) (b : Block) (op : ArithOp) (v : Variant) (x y z : WireNo) (sh : ℕ) (r : Option Bounds) (first second third : Bounds) → IsValid net → AreAllowed net.wires entries → i < length net.wires → (wire_at net.wires i).item ≡ OfBlock b → b ≡ Arith op v x y z sh → first ≡ entry_at entries x.0 → second ≡ entry_at entries y.0 → third ≡ entry_at entries z.0 → r ≡ cond (arith_may_divide_by_zero op (three first second third)) None (if_small (arith_bounds op sh (three first second third))) → allowed_of (wire_at net.wires i).kind Value r ≡ allowed_of (wire_at net.wires i).kind Value (bounds_of net.wires (wire_at net.wires i).kind (OfBlock b) (λ k. entry_of net.wires entries k Value))
 unfolding proposed
-arith_returns net entries i b op v x y z sh r first second third valid sound h here case e f g is =
+arith_returns net entries i b op v x y z sh r first second third valid allowed h here case e f g is =
     let kind = (wire_at net.wires i).kind in
     let known : ℕ → Bounds = λ k. entry_of net.wires entries k Value in
     let given : ℕ → Bounds = arguments_of (Arith op v x y z sh) known in
@@ -131,16 +130,16 @@ arith_returns net entries i b op v x y z sh r first second third valid sound h h
     let divisor : arith_may_divide_by_zero op (three first second third) ≡ arith_may_divide_by_zero op given = rw (e1, e2, e3) (divisor_of_three op given) in
     let bounds : arith_bounds op sh (three first second third) ≡ arith_bounds op sh given = rw (e1, e2, e3) (bounds_of_three op sh given) in
     ap (allowed_of kind Value) (is ∙ ap₂ (λ t n. cond t None (if_small n)) divisor bounds)
-    ∙ arith_allowed kind (has_rule op) (arith_may_divide_by_zero op given) (arith_bounds op sh given) there.ruled (λ away. proper_bounds op sh given there.ruled away (unsigned_step net entries i (OfBlock (Arith op v x y z sh)) valid sound h here') (small_arguments net entries i (Arith op v x y z sh) valid sound h here'))
+    ∙ arith_allowed kind (is_smooth_operation op) (arith_may_divide_by_zero op given) (arith_bounds op sh given) there.ruled (λ away. proper_bounds op sh given there.ruled away (unsigned_step net entries i (OfBlock (Arith op v x y z sh)) valid allowed h here') (small_arguments net entries i (Arith op v x y z sh) valid allowed h here'))
     ∙ ap (λ t. allowed_of kind Value (bounds_of net.wires kind (OfBlock t) known)) (sym case)
 
 -- points by their fields
 pub same_points : (a b c a' b' c' : ℕ) → a ≡ a' → b ≡ b' → c ≡ c' → ◌≡◌ {A = Points} (record { a = a; b = b; c = c }) (record { a = a'; b = b'; c = c' })
 same_points a b c a' b' c' p q r = ap₂ (λ (s t : ℕ). record { a = s; b = t; c = c }) p q ∙ ap (λ (t : ℕ). record { a = a'; b = b'; c = t }) r
 
-pub scaled_returns : (net : NetData) (entries : List Bounds) (i : ℕ) (b : Block) (op : ScaledOp) (v : Variant) (x y : WireNo) (r : Option Bounds) (points : Points) (first second : Bounds) → IsValid net → AreSound net.wires entries → i < length net.wires → (wire_at net.wires i).item ≡ OfBlock b → b ≡ Scaled op v x y → points ≡ points_of net.wires (wire_at net.wires i).kind (Scaled op v x y) → first ≡ entry_at entries x.0 → second ≡ entry_at entries y.0 → r ≡ cond (scaled_may_divide_by_zero op (two first second)) None (if_small (scaled_bounds op points (two first second))) → allowed_of (wire_at net.wires i).kind Value r ≡ allowed_of (wire_at net.wires i).kind Value (bounds_of net.wires (wire_at net.wires i).kind (OfBlock b) (λ k. entry_of net.wires entries k Value))
+pub scaled_returns : (net : NetData) (entries : List Bounds) (i : ℕ) (b : Block) (op : ScaledOp) (v : Variant) (x y : WireNo) (r : Option Bounds) (points : Points) (first second : Bounds) → IsValid net → AreAllowed net.wires entries → i < length net.wires → (wire_at net.wires i).item ≡ OfBlock b → b ≡ Scaled op v x y → points ≡ points_of net.wires (wire_at net.wires i).kind (Scaled op v x y) → first ≡ entry_at entries x.0 → second ≡ entry_at entries y.0 → r ≡ cond (scaled_may_divide_by_zero op (two first second)) None (if_small (scaled_bounds op points (two first second))) → allowed_of (wire_at net.wires i).kind Value r ≡ allowed_of (wire_at net.wires i).kind Value (bounds_of net.wires (wire_at net.wires i).kind (OfBlock b) (λ k. entry_of net.wires entries k Value))
 unfolding proposed
-scaled_returns net entries i b op v x y r points first second valid sound h here case p e f is =
+scaled_returns net entries i b op v x y r points first second valid allowed h here case p e f is =
     let kind = (wire_at net.wires i).kind in
     let known : ℕ → Bounds = λ k. entry_of net.wires entries k Value in
     let form = Scaled op v x y in
@@ -151,7 +150,7 @@ scaled_returns net entries i b op v x y r points first second valid sound h here
     let divisor : scaled_may_divide_by_zero op (two first second) ≡ scaled_may_divide_by_zero op given = rw (e1, e2) (form_divisor_of_two op given) in
     let bounds : scaled_bounds op points (two first second) ≡ scaled_bounds op (points_of net.wires kind form) given = rw (e1, e2, p) (form_bounds_of_two op (points_of net.wires kind form) given) in
     ap (allowed_of kind Value) (is ∙ ap₂ (λ t n. cond t None (if_small n)) divisor bounds)
-    ∙ arith_allowed kind true (scaled_may_divide_by_zero op given) (scaled_bounds op (points_of net.wires kind form) given) refl (λ away. proper_form_bounds op (points_of net.wires kind form) given away (small_arguments net entries i form valid sound h (here ∙ ap OfBlock case)))
+    ∙ arith_allowed kind true (scaled_may_divide_by_zero op given) (scaled_bounds op (points_of net.wires kind form) given) refl (λ away. proper_form_bounds op (points_of net.wires kind form) given away (small_arguments net entries i form valid allowed h (here ∙ ap OfBlock case)))
     ∙ ap (λ t. allowed_of kind Value (bounds_of net.wires kind (OfBlock t) known)) (sym case)
 
 -- ---- the bounds of what isn't a block
@@ -182,15 +181,9 @@ block_returns wires kind item read b known found same case h =
 abbrev IsFound : List Wire → List Bounds → ℕ → Option Bounds → Type 0
 IsFound wires entries i found = allowed_of (wire_at wires i).kind Value found ≡ allowed_of (wire_at wires i).kind Value (bounds_of wires (wire_at wires i).kind (wire_at wires i).item (λ k. entry_of wires entries k Value))
 
--- it is what the bounds are, where they are allowed
-rule_is : (fails : Bool) (kind : Kind) (b : Bounds) → allowed_of kind Value (cond fails None (Some b)) ≡ cond fails None (if_allowed kind Value b)
-rule_is true kind b = refl
-rule_is false kind b = refl
-
 rule_of-bounds : (wires : List Wire) (entries : List Bounds) (i : ℕ) (found : Option Bounds) → IsFound wires entries i found → allowed_of (wire_at wires i).kind Value found ≡ rule_of wires i Value (entry_of wires entries)
 unfolding rule_of
-rule_of-bounds wires entries i found e =
-    e ∙ rule_is (may_fail (wire_at wires i).item (λ k. entry_of wires entries k Value)) (wire_at wires i).kind (proposed wires (wire_at wires i).kind (wire_at wires i).item (λ k. entry_of wires entries k Value))
+rule_of-bounds wires entries i found e = e
 
 pub rule_allowed : (wires : List Wire) (entries : List Bounds) (i : ℕ) (kind : Kind) (found : Option Bounds) (b : Bounds) (t : Bool) → IsFound wires entries i found → found ≡ Some b → kind ≡ (wire_at wires i).kind → t ≡ is_allowed kind Value b → t ≡ true → Some b ≡ rule_of wires i Value (entry_of wires entries)
 rule_allowed wires entries i kind found b t e is k f passed =

@@ -7,10 +7,11 @@ use Rattle.fx_fraction.proofs.WholeNumbers.{int_le_trans}
 use Rattle.fx_routines.specs.declared.operation.ScaledOp.{ScaledOp}
 use Rattle.fx_routines.specs.declared.operation.ScaledOp.TheVariants.{Convert, Div}
 use Rattle.mfx_scaled.specs.declared.binary_points.Points.{Points}
+use Rattle.fx_core.specs.Arguments.{two}
 use Rattle.cert_rules.specs.declared.bounds.Bounds.{Bounds}
 use Rattle.cert_rules.specs.Entries.{IsSmall}
 use Rattle.cert_rules.specs.ScaledRules.{scaled_bounds, scaled_may_divide_by_zero, scaled_values}
-use Rattle.cert_rules.specs.ScaledCorners.{FormHasDivisorsAtEnds, two}
+use Rattle.cert_rules.specs.ScaledCorners.{FormHasDivisorsAtEnds}
 use Rattle.cert_rules.proofs.ArithArguments.{corner_within}
 use Rattle.cert_rules.proofs.ArithDivisorEnds.{ends_of}
 use Rattle.cert_rules.proofs.ArithProducts.{near_positive}

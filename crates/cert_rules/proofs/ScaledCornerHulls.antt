@@ -5,10 +5,11 @@ use Rattle.std.proofs.Common.{refl, sym, ap₂, ◌∙◌}
 use Rattle.fx_routines.specs.declared.operation.ScaledOp.{ScaledOp}
 use Rattle.fx_routines.specs.declared.operation.ScaledOp.TheVariants.{Convert, Sub, AbsDiff}
 use Rattle.mfx_scaled.specs.declared.binary_points.Points.{Points}
+use Rattle.fx_core.specs.Arguments.{two}
 use Rattle.cert_rules.specs.declared.bounds.Bounds.{Bounds}
 use Rattle.cert_rules.specs.Ranges.{least_among, greatest_among}
 use Rattle.cert_rules.specs.ScaledRules.{level_points, scaled_corner_values, scaled_values}
-use Rattle.cert_rules.specs.ScaledCorners.{two, form_value, form_least_over_second, form_greatest_over_second, form_least_at_corners, form_greatest_at_corners}
+use Rattle.cert_rules.specs.ScaledCorners.{form_value, form_least_over_second, form_greatest_over_second, form_least_at_corners, form_greatest_at_corners}
 use Rattle.cert_rules.proofs.ArithCornerHulls.{Joins, least_joins, greatest_joins, four_joined, passes}
 
 -- where the second argument isn't looked at, and where both are

@@ -5,10 +5,10 @@ use Rattle.fx_core.specs.Rounding.{rounded, least_quotient_above}
 use Rattle.fx_routines.specs.declared.operation.ScaledOp.TheVariants.{Convert, Add, Sub, AbsDiff, Mul, Div}
 use Rattle.mfx_scaled.specs.declared.binary_points.Points.{Points}
 use Rattle.mfx_scaled.specs.Formulas.{point_factor}
+use Rattle.fx_core.specs.Arguments.{two}
 use Rattle.cert_rules.specs.declared.bounds.Bounds.{Bounds}
-use Rattle.cert_rules.specs.ArithRules.{product_error, shifted_error}
-use Rattle.cert_rules.specs.ScaledCorners.{two}
-use Rattle.cert_rules.specs.ScaledRules.{raised_quotient_error, scaled_bounds, scaled_may_divide_by_zero, scaled_values, sum_error}
+use Rattle.cert_rules.specs.ArithRules.{product_error, shifted_error, quotient_error}
+use Rattle.cert_rules.specs.ScaledRules.{scaled_bounds, scaled_may_divide_by_zero, scaled_values, sum_error}
 
 abbrev bounds : ℤ → ℤ → ℤ → Bounds
 bounds lo hi err = record { lo = lo; hi = hi; err = err }
@@ -57,12 +57,12 @@ product_raised = refl
 
 -- 100 over 4 y: 65536 * (100 * 1 + 2 * 3) over 2 * (131072 - 1) * 4 is 6.6 and a little more
 quotient_of_lowered : scaled_bounds Div (at 2 0 0) (two (bounds (pos 100) (pos 100) (pos 3)) (bounds (pos 2) (pos 5) (pos 1))) ≡ bounds (pos 5) (pos 12) (pos 65543)
-unfolding scaled_bounds scaled_values raised_quotient_error least_quotient_above point_factor divided quotient times whole over rounded
+unfolding scaled_bounds scaled_values quotient_error least_quotient_above point_factor divided quotient times whole over rounded
 quotient_of_lowered = refl
 
 -- 8 x over y: 65536 * (72 * 1 + 2 * 24) over 2 * (131072 - 1) is 30 and a little more
 quotient_of_raised : scaled_bounds Div (at 0 1 2) (two (bounds (pos 7) (pos 9) (pos 3)) (bounds (negsuc 4) (negsuc 1) (pos 1))) ≡ bounds (negsuc 35) (negsuc 10) (pos 65567)
-unfolding scaled_bounds scaled_values raised_quotient_error least_quotient_above point_factor divided quotient times whole rounded
+unfolding scaled_bounds scaled_values quotient_error least_quotient_above point_factor divided quotient times whole rounded
 quotient_of_raised = refl
 
 -- a divisor may be 0 where its range holds 0, and where its error reaches to 0, whatever the points are

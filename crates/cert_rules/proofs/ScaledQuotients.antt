@@ -1,48 +1,24 @@
 -- The error of a quotient whose divisor is shifted to the left: it moves with the divisor, and no other error comes in.
-use Rattle.std.proofs.Common.{◌≡◌, ℕ, ◌+◌, ◌-◌, ◌*◌, ◌≤◌, ◌<◌, ◌^◌, false, ℤ, pos, ◌+ℤ◌, ◌-ℤ◌, ◌*ℤ◌, ◌≤ℤ◌, refl, sym, ap, ap₂, ◌∙◌, arith, max, mul-le-mul_right, pow_pos}
+use Rattle.std.proofs.Common.{◌≡◌, ℕ, ◌+◌, ◌-◌, ◌*◌, ◌≤◌, ◌<◌, ◌^◌, false, ℤ, pos, ◌-ℤ◌, ◌*ℤ◌, ◌≤ℤ◌, refl, sym, ap, ap₂, ◌∙◌, arith, max, mul-le-mul_right, pow_pos}
 use Rattle.std.specs.Prelude.{unsigned_abs}
 use Rattle.std.proofs.lemmas.Int.{ints}
 use native.Mathlib.Nat.{mul-pos}
 use Rattle.fx_fraction.specs.Fraction.{Fraction, whole, times, divided, is_zero}
 use Rattle.fx_fraction.proofs.Denominators.{is_divided_signed, common_two}
-use Rattle.fx_fraction.proofs.WholeNumbers.{int_is_natural, int_le-pos, int_mul_right_comm, unsigned_abs-mul_pos, unsigned_abs-sub-mul, with_sign}
-use Rattle.fx_core.specs.Rounding.{IsLeastQuotientAbove, least_quotient_above, power}
-use Rattle.fx_core.proofs.RoundingLaws.{least_quotient_above_bounds}
+use Rattle.fx_fraction.proofs.WholeNumbers.{int_is_natural, int_mul_right_comm, unsigned_abs-mul_pos, unsigned_abs-sub-mul, with_sign}
+use Rattle.fx_core.specs.Rounding.{power}
 use Rattle.mfx_scaled.specs.Counts.{raised}
 use Rattle.mfx_scaled.proofs.Shifts.{divisor_shifted, is_shifted_left}
 use Rattle.cert_rules.specs.declared.bounds.Bounds.{Bounds}
 use Rattle.cert_rules.specs.Certificates.{IsWithin}
-use Rattle.cert_rules.specs.ArithRules.{least_reach, may_be_zero}
-use Rattle.cert_rules.specs.ScaledRules.{raised_quotient_error}
+use Rattle.cert_rules.specs.ArithRules.{mignitude, may_be_zero, quotient_error}
 use Rattle.cert_rules.proofs.ScaledDistances.{places_left, places_right}
 use Rattle.cert_rules.proofs.ArithErrors.{Near}
-use Rattle.cert_rules.proofs.ArithProducts.{above_positive, near_numerators, near_positive, numerators_near}
-use Rattle.cert_rules.proofs.ArithDivisors.{StaysAway, dividend_natural, divisor_natural, natural_above, stays_away}
+use Rattle.cert_rules.proofs.ArithProducts.{near_numerators, near_positive, numerators_near}
+use Rattle.cert_rules.proofs.ArithDivisors.{StaysAway, quotient_error_of, stays_away}
 use Rattle.cert_rules.proofs.ArithQuotients.{IsDivision, division_divides, division_numerators, not_zero_case}
 
 -- ---- the error as a natural
-
-record IsRaisedError (k : ℕ) (top err : ℤ) (y : Bounds) (M E F L W : ℕ) : Type 0 where
-  rest : ℕ
-  is : raised_quotient_error k top err y ≡ pos (rest + 65536)
-  above : 65536 * (M * F + L * E) ≤ rest * (L * W * 2 ^ k)
-
-raised_error_of : (k : ℕ) (top err : ℤ) (y : Bounds) (M E F L W : ℕ) → top ≡ pos M → err ≡ pos E → y.err ≡ pos F → least_reach y ≡ pos L → W + F ≡ 65536 * L → 1 ≤ L → 1 ≤ W → IsRaisedError k top err y M E F L W
-unfolding raised_quotient_error
-raised_error_of k top err y M E F L W h i p q e some some' =
-    let n = pos 65536 *ℤ (top *ℤ y.err +ℤ least_reach y *ℤ err) in
-    let d = least_reach y *ℤ (pos 65536 *ℤ least_reach y -ℤ y.err) *ℤ power k in
-    let n' : n ≡ pos (65536 * (M * F + L * E)) = dividend_natural _ _ _ _ M E F L h i p q in
-    let d' : d ≡ pos (L * W * 2 ^ k) = ap (λ t. t *ℤ power k) (divisor_natural _ _ F L W p q e) in
-    let one : pos 1 ≤ℤ d = rw d' (int_le-pos _ _ (mul-pos (mul-pos some some') (pow_pos k))) in
-    let r = least_quotient_above n d in
-    let b : IsLeastQuotientAbove n d r = least_quotient_above_bounds n d one in
-    let natural : r ≡ pos (unsigned_abs r) = int_is_natural r (above_positive n d r (rw n' (int_le-pos _ _ (omega arith))) one b) in
-    record {
-      rest = unsigned_abs r;
-      is = ap (λ t. t +ℤ pos 65536) natural;
-      above = natural_above n d r _ _ _ n' d' natural b.0;
-    }
 
 -- both sides times K
 above_times : (M E F L W Q K : ℕ) → 65536 * (M * F + L * E) ≤ Q * (L * W * K) → 65536 * (M * (F * K) + L * K * E) ≤ Q * (L * K * (W * K))
@@ -69,13 +45,13 @@ least_times n L K h = rw (unsigned_abs-mul_pos n K) (mul-le-mul_right K h)
 -- the quotient of a dividend within `top` and a divisor that may not be 0, k places to the left, rounded to less than one away
 pub record DividesRaised (k : ℕ) (m n : ℤ) (e f : Fraction) (top err : ℤ) (y : Bounds) : Type 0 where
   pub divisor : is_zero f ≡ false
-  pub near : (r : ℤ) → unsigned_abs (r *ℤ (n *ℤ power k) -ℤ m) < unsigned_abs (n *ℤ power k) → Near (whole r) (divided e (times f (whole (power k)))) (raised_quotient_error k top err y)
+  pub near : (r : ℤ) → unsigned_abs (r *ℤ (n *ℤ power k) -ℤ m) < unsigned_abs (n *ℤ power k) → Near (whole r) (divided e (times f (whole (power k)))) (quotient_error k top err y)
 
 pub divides_raised : (k : ℕ) (m n : ℤ) (e f : Fraction) (top err : ℤ) (y : Bounds) → pos 0 ≤ℤ top → unsigned_abs m ≤ unsigned_abs top → Near (whole m) e err → IsWithin y n f → may_be_zero y ≡ false → DividesRaised k m n e f top err y
 divides_raised k m n e f top err y h size p q away =
     let c = common_two e f in
     let K = 2 ^ k in
-    let least = unsigned_abs (least_reach y) in
+    let least = unsigned_abs (mignitude y) in
     let a : StaysAway y least = stays_away y away in
     let second : Near (whole n) f y.err = record { near = q.near } in
     let positive : pos 0 ≤ℤ y.err = near_positive n y.err f second in
@@ -97,15 +73,15 @@ divides_raised k m n e f top err y h size p q away =
     } in
     let reached : 1 ≤ unsigned_abs (c.y *ℤ pos K) = division_divides _ _ _ _ _ _ _ _ _ _ i in
     let shifted = is_shifted_left k c.second in
-    let rule = raised_error_of k top err y (unsigned_abs top) (unsigned_abs err) F least W (int_is_natural top h) (int_is_natural err (near_positive m err e p)) (int_is_natural y.err positive) a.is apart some left in
+    let rule = quotient_error_of k top err y (unsigned_abs top) (unsigned_abs err) F least W (int_is_natural top h) (int_is_natural err (near_positive m err e p)) (int_is_natural y.err positive) a.is apart some left in
     record {
       divisor = sym (divisor_shifted f k) ∙ not_zero_case (times f (whole (power k))) c.bottom (c.y *ℤ pos K) _ refl shifted reached;
       near = λ r t. rw rule.is (numerators_near r (with_sign (c.y *ℤ pos K) c.x) (rule.rest + 65536) (unsigned_abs (c.y *ℤ pos K)) (divided e (times f (whole (power k)))) (is_divided_signed (c.y *ℤ pos K) reached c.first shifted) (division_numerators m (n *ℤ pos K) c.x (c.y *ℤ pos K) r _ _ _ _ _ rule.rest c.bottom i (above_times (unsigned_abs top) (unsigned_abs err) F least W rule.rest K rule.above) t));
     }
 
 -- the rule's places are those from the higher of the dividend's point and the divisor's, p
-pub quotient_error_is : (a p : ℕ) (top err : ℤ) (y : Bounds) → raised_quotient_error (max a p - p) (raised top a (max a p)) (raised err a (max a p)) y ≡ raised_quotient_error (a - p) (top *ℤ power (p - a)) (err *ℤ power (p - a)) y
-quotient_error_is a p top err y = ap₂ (λ k j. raised_quotient_error k (top *ℤ power j) (err *ℤ power j) y) (places_right a p) (places_left a p)
+pub quotient_error_is : (a p : ℕ) (top err : ℤ) (y : Bounds) → quotient_error (max a p - p) (raised top a (max a p)) (raised err a (max a p)) y ≡ quotient_error (a - p) (top *ℤ power (p - a)) (err *ℤ power (p - a)) y
+quotient_error_is a p top err y = ap₂ (λ k j. quotient_error k (top *ℤ power j) (err *ℤ power j) y) (places_right a p) (places_left a p)
 
-pub over_error : (a p h : ℕ) (t e top err : ℤ) (y : Bounds) → h ≡ max a p → t ≡ raised top a h → e ≡ raised err a h → raised_quotient_error (h - p) t e y ≡ raised_quotient_error (a - p) (top *ℤ power (p - a)) (err *ℤ power (p - a)) y
+pub over_error : (a p h : ℕ) (t e top err : ℤ) (y : Bounds) → h ≡ max a p → t ≡ raised top a h → e ≡ raised err a h → quotient_error (h - p) t e y ≡ quotient_error (a - p) (top *ℤ power (p - a)) (err *ℤ power (p - a)) y
 over_error a p h t e top err y i j k = rw (j, k, i) (quotient_error_is a p top err y)

@@ -19,19 +19,19 @@ use Rattle.mfx_scaled.specs.Formulas.{point_factor, scaled_formula}
 use Rattle.mfx_scaled.proofs.Shifts.{convert_at, difference_at, distance_at, product_at, quotient_at, quotient_shifted, sum_at}
 use Rattle.cert_rules.specs.declared.bounds.Bounds.{Bounds}
 use Rattle.cert_rules.specs.Certificates.{IsWithin}
-use Rattle.cert_rules.specs.ArithRules.{may_be_zero, product_error, reach, zero_between}
+use Rattle.cert_rules.specs.ArithRules.{may_be_zero, product_error, magnitude, zero_between}
 use Rattle.cert_rules.specs.ScaledRules.{highest, scaled_bounds, scaled_error, scaled_rounded, scaled_values}
 use Rattle.cert_rules.specs.ScaledSoundness.{FormIsGiven, FormKeepsRule}
 use Rattle.cert_rules.proofs.Hulls.{IsInHull, hull_holds}
 use Rattle.cert_rules.proofs.ArithHulls.{IsBetween, IsInside, LiesBetween, hull_of_corners, in_hull, ordered_in_hull}
 use Rattle.cert_rules.proofs.ArithValues.{difference_first, difference_second, product_first, product_second, sum_first, sum_second}
-use Rattle.cert_rules.proofs.ArithProducts.{near_product, reach_positive, within_reach}
+use Rattle.cert_rules.proofs.ArithProducts.{near_product, magnitude_positive, within_magnitude}
 use Rattle.cert_rules.proofs.ArithDivisors.{IsOneSided, stays_away}
 use Rattle.cert_rules.proofs.ArithQuotients.{near_scaled}
 use Rattle.cert_rules.proofs.ArithSizes.{product_some}
 use Rattle.cert_rules.proofs.ArithQuotientValues.{between_quotients, int_div-error, one_sided_divisor, quotient_second}
 use Rattle.cert_rules.proofs.ArithErrors.{Near}
-use Rattle.cert_rules.proofs.ArithRoutines.{inside, machine_divisor, near, not_zero, shifted_reach, zero_there}
+use Rattle.cert_rules.proofs.ArithRoutines.{inside, machine_divisor, near, not_zero, shifted_magnitude, zero_there}
 use Rattle.cert_rules.proofs.ScaledDistances.{near_converted, near_difference, near_distance, near_same, near_sum}
 use Rattle.cert_rules.proofs.ScaledQuotients.{divides_raised, quotient_error_is}
 
@@ -246,10 +246,10 @@ div_keeps points given m e away w =
     let h = max a p in
     let side = (stays_away (given 1) away).side in
     let some : 1 ≤ unsigned_abs (m 1) = machine_divisor (given 1) (m 1) (e 1) away y in
-    let top : pos 0 ≤ℤ raised (reach (given 0)) a h = int_mul_not_negative _ _ (reach_positive (given 0)) (int_le-pos _ _ (omega arith)) in
-    let size = shifted_reach (given 0) (m 0) (2 ^ (h - a)) (within_reach (given 0) (m 0) (e 0) x) in
+    let top : pos 0 ≤ℤ raised (magnitude (given 0)) a h = int_mul_not_negative _ _ (magnitude_positive (given 0)) (int_le-pos _ _ (omega arith)) in
+    let size = shifted_magnitude (given 0) (m 0) (2 ^ (h - a)) (within_magnitude (given 0) (m 0) (e 0) x) in
     let z = int_div (raised (m 0) a h) (raised (m 1) p h) in
-    let d = divides_raised (h - p) (raised (m 0) a h) (m 1) (times (e 0) (whole (power (h - a)))) (e 1) (raised (reach (given 0)) a h) (raised (given 0).err a h) (given 1) top size (near_scaled (2 ^ (h - a)) (m 0) (given 0).err (e 0) (near _ _ _ x)) y away in
+    let d = divides_raised (h - p) (raised (m 0) a h) (m 1) (times (e 0) (whole (power (h - a)))) (e 1) (raised (magnitude (given 0)) a h) (raised (given 0).err a h) (given 1) top size (near_scaled (2 ^ (h - a)) (m 0) (given 0).err (e 0) (near _ _ _ x)) y away in
     let q = divided (times (e 0) (point_factor a p)) (e 1) in
     let error = near_same z _ (divided (times (e 0) (whole (power (h - a)))) (times (e 1) (whole (power (h - p))))) q (quotient_shifted (e 0) (e 1) a p h (omega arith) (omega arith)) (d.near z (int_div-error (raised (m 0) a h) (raised (m 1) p h) (raised_some p h (m 1) some))) in
     record {
@@ -258,6 +258,6 @@ div_keeps points given m e away w =
       within = form_within Div points given m e z (record {
         value = quotient_at (m 0) (m 1) a p h (omega arith) (omega arith) some;
         hull = hull_of_corners (λ s t. rounded_fraction Zero (divided (times (whole s) (point_factor a p)) (whole t))) (λ s t. int_div (raised s a h) (raised t p h)) _ _ _ _ [] (λ s t i j. quotient_at s t a p h (omega arith) (omega arith) (one_sided_divisor _ _ t side j)) (λ t j s i. between_quotients (raised t p h) _ _ _ (raised_some p h t (one_sided_divisor _ _ t side j)) (product_first (power (h - a)) _ _ s i)) (λ s i. of_raised p h (int_div (raised s a h)) _ _ (quotient_second (raised s a h) _ _ (raised_side _ _ (2 ^ (h - p)) (pow_pos (h - p)) side))) (m 0) (m 1) (inside _ _ _ x) (inside _ _ _ y);
-        error = subst (Near (whole z) q) (quotient_error_is a p (reach (given 0)) (given 0).err (given 1)) error;
+        error = subst (Near (whole z) q) (quotient_error_is a p (magnitude (given 0)) (given 0).err (given 1)) error;
       });
     }

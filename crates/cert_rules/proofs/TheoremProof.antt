@@ -1,95 +1,82 @@
 -- An accepted certificate holds. Each row stands for itself, since no built block reads an earlier one; within a row
--- each wire follows from the wires before it, and nothing here names a block's routine.
-use Rattle.std.specs.Prelude.{◌≡◌, ℕ, suc, ◌+◌, ◌<◌, false, List, [], length, get_or, drop, ℤ, pos}
+-- each wire follows from the wires before it by the law of rules, and nothing here names a block's routine.
+use Rattle.std.specs.Prelude.{◌≡◌, ℕ, suc, ◌+◌, ◌<◌, List, [], length, get_or, drop, ℤ, pos, ◌≤ℤ◌}
 use Rattle.std.proofs.Common.{refl, sym, ap, ◌∙◌, subst, arith}
 use Rattle.std.proofs.lemmas.List.{get_or-drop}
 use Rattle.fx_fraction.specs.Fraction.{Fraction}
 use Rattle.fx_fraction.proofs.WholeNumbers.{int_le_trans}
-use Rattle.net_model.specs.declared.wires.Block.TheVariants.{Arith, Scaled}
-use Rattle.net_model.specs.declared.wires.Item.{Item}
-use Rattle.net_model.specs.declared.wires.Item.TheVariants.{Input, Const, Block as OfBlock}
 use Rattle.net_model.specs.declared.wires.Role.{Role}
 use Rattle.net_model.specs.declared.wires.Role.TheVariants.{Value}
 use Rattle.net_model.specs.declared.wires.Wire.{Wire}
 use Rattle.net_model.specs.Validity.{IsValid}
-use Rattle.net_model.specs.Wires.{NetData, wire_at, input_place, argument_of}
-use Rattle.net_meaning.specs.Cells.{Cell, Meaning, cell_at}
-use Rattle.net_meaning.specs.Blocks.{machine, exact, points_of, quotient_of}
-use Rattle.net_meaning.specs.Runs.{equation, IsRun}
-use Rattle.net_meaning.specs.Promises.{KeepsRange, Keeps, DividesWell, FitsAt}
-use Rattle.net_meaning.proofs.Arguments.{ArgumentsEarlier, IsOrdered, arguments_earlier}
+use Rattle.net_model.specs.Wires.{NetData, wire_at, input_place, kind_least, kind_greatest}
+use Rattle.net_model.proofs.ValidityFacts.{get_or-parts_of, length-parts_of}
+use Rattle.net_meaning.specs.Cells.{Cell, Meaning, cell_at, cells_from}
+use Rattle.net_meaning.specs.Blocks.{machine, exact}
+use Rattle.net_meaning.specs.Runs.{AreRuns, HasAllInputs, IsRun, Tables, equation, table}
+use Rattle.net_meaning.specs.Promises.{KeepsRange, Keeps, FitsAt}
+use Rattle.net_meaning.proofs.Arguments.{ArgumentsEarlier, arguments_earlier}
 use Rattle.net_meaning.proofs.Equations.{by_smaller}
+use Rattle.net_meaning.proofs.OneRun.{runs_agree}
+use Rattle.net_meaning.proofs.TableRun.{table_is_run}
 use Rattle.cert_rules.specs.declared.bounds.Bounds.{Bounds}
 use Rattle.cert_rules.specs.Certificates.{IsWithin, entry_of, held_by}
-use Rattle.cert_rules.specs.Rules.{may_fail}
-use Rattle.cert_rules.specs.Acceptance.{Accepts}
+use Rattle.cert_rules.specs.Acceptance.{Accepts, entry_at}
+use Rattle.cert_rules.specs.Soundness.{IsGiven}
 use Rattle.cert_rules.specs.Theorem.{CertificatesHold}
-use Rattle.cert_rules.proofs.RuleSoundness.{IsSound, ArgumentsWithin, ItemHasUnsignedStep, arith_keeps, form_keeps, rule_is_sound}
-use Rattle.cert_rules.proofs.UnsignedSteps.{unsigned_step}
-use Rattle.cert_rules.proofs.AcceptedEntries.{within_wider, proposal, EntryHolds, entry_holds}
+use Rattle.cert_rules.proofs.AcceptedEntries.{entry_holds, within_wider}
+use Rattle.cert_rules.proofs.EntryFacts.{entry_of-value}
+use Rattle.cert_rules.proofs.PartsRead.{reads_earlier}
+use Rattle.cert_rules.proofs.RuleSoundness.{IsKept, IsSound, equation_keeps, within_at}
+use Rattle.cert_rules.proofs.RulesLaw.{wire_is_sound}
 
 -- ---- one wire
 
--- where a wire's value gets bounds, no divisor is 0
-divides_well : (wires : List Wire) (w : Wire) (item : Item) (known : ℕ → Bounds) (m : ℕ → ℕ → Cell ℤ) (e : ℕ → ℕ → Cell Fraction) → may_fail item known ≡ false → ItemHasUnsignedStep item known → ArgumentsWithin item known m e → DividesWell wires w item m e
-unfolding quotient_of
-divides_well wires w (Input lo hi) known m e h step given = tt
-divides_well wires w (Const value) known m e h step given = tt
-divides_well wires w (OfBlock (Arith op v x y z sh)) known m e h step given =
-    let b = Arith op v x y z sh in
-    let keeps = arith_keeps op v x y z sh known (λ p. (m 0 (argument_of b p)).value) (λ p. (e 0 (argument_of b p)).value) h step given in
-    (keeps.machine_divides, keeps.exact_divides)
-divides_well wires w (OfBlock (Scaled op v x y)) known m e h step given =
-    let b = Scaled op v x y in
-    let keeps = form_keeps op v x y (points_of wires w.kind b) known (λ p. (m 0 (argument_of b p)).value) (λ p. (e 0 (argument_of b p)).value) h given in
-    (keeps.machine_divides, keeps.exact_divides)
-
 -- the value of wire k is within its entry
-abbrev IsHeld : List Wire → List Bounds → (ℕ → ℕ → Cell ℤ) → (ℕ → ℕ → Cell Fraction) → ℕ → Type 0
-IsHeld wires entries m e k = IsWithin (entry_of wires entries k Value) (m 0 k).value (e 0 k).value
+abbrev IsValueHeld : List Wire → List Bounds → (ℕ → ℕ → Cell ℤ) → (ℕ → ℕ → Cell Fraction) → ℕ → Type 0
+IsValueHeld wires entries m e k = IsWithin (entry_of wires entries k Value) (m 0 k).value (e 0 k).value
 
-arguments_within : (wires : List Wire) (entries : List Bounds) (i : ℕ) (item : Item) (m : ℕ → ℕ → Cell ℤ) (e : ℕ → ℕ → Cell Fraction) → ArgumentsEarlier i item → ((k : ℕ) → k < i → IsHeld wires entries m e k) → ArgumentsWithin item (λ w. entry_of wires entries w Value) m e
-arguments_within wires entries i (Input lo hi) m e earlier held = tt
-arguments_within wires entries i (Const value) m e earlier held = tt
-arguments_within wires entries i (OfBlock b) m e earlier held = λ p. held (argument_of b p) (earlier p)
+-- where the wires before wire i are within their entries, what its rule reads is
+earlier_given : (net : NetData) (entries : List Bounds) (i : ℕ) (m : ℕ → ℕ → Cell ℤ) (e : ℕ → ℕ → Cell Fraction) → i < length net.wires → ArgumentsEarlier i (wire_at net.wires i).item → ((k : ℕ) → k < i → IsValueHeld net.wires entries m e k) → IsGiven net entries i m e
+earlier_given net entries i m e h below held k ago in_parts read =
+    let in_wires : k < length net.wires = rw (length-parts_of net.wires) at in_parts in
+    let there = get_or-parts_of net.wires k in_wires in
+    let r = reads_earlier net.wires i k ago (get_or-parts_of net.wires i h) there below read in
+    let value : IsWithin (entry_at entries k) (m 0 k).value (e 0 k).value = rw (entry_of-value net.wires entries k in_wires) at (held k r.earlier) in
+    rw (r.now, there) value
 
 record WireHolds (wires : List Wire) (entries : List Bounds) (i : ℕ) (m : ℕ → ℕ → Cell ℤ) (e : ℕ → ℕ → Cell Fraction) : Type 0 where
   fits : FitsAt wires (wire_at wires i) m e (m 0 i)
-  held : IsHeld wires entries m e i
+  held : IsValueHeld wires entries m e i
 
-within_at : (b : Bounds) (v w : ℤ) (e : Fraction) → v ≡ w → IsWithin b w e → IsWithin b v e
-within_at b v w e same h = rw same h
-
-wire_holds : (wires : List Wire) (entries : List Bounds) (rows : List (List ℤ)) (i : ℕ) (m : ℕ → ℕ → Cell ℤ) (e : ℕ → ℕ → Cell Fraction) → EntryHolds wires entries i → ItemHasUnsignedStep (wire_at wires i).item (λ w. entry_of wires entries w Value) → ArgumentsEarlier i (wire_at wires i).item → KeepsRange (wire_at wires i).item (get_or (get_or rows 0 []) (input_place wires i) (pos 0)) → m 0 i ≡ equation machine wires rows m i → e 0 i ≡ equation exact wires rows e i → ((k : ℕ) → k < i → IsHeld wires entries m e k) → WireHolds wires entries i m e
-wire_holds wires entries rows i m e entry step earlier keeps p q held =
-    let kind = (wire_at wires i).kind in
-    let bounds = proposal wires entries i in
-    let given = arguments_within wires entries i (wire_at wires i).item m e earlier held in
-    let raw = rule_is_sound wires rows i (wire_at wires i).item (λ w. entry_of wires entries w Value) m e keeps entry.ruled step given in
-    let sound : IsSound kind bounds (m 0 i) (e 0 i) = subst (λ c. IsSound kind bounds c (e 0 i)) (sym p) (subst (IsSound kind bounds (equation machine wires rows m i)) (sym q) raw) in
-    let low = int_le_trans _ _ _ entry.least sound.value.low in
-    let high = int_le_trans _ _ _ sound.value.high entry.greatest in
+wire_holds : (net : NetData) (entries : List Bounds) (rows : List (List ℤ)) (i : ℕ) (m : ℕ → ℕ → Cell ℤ) (e : ℕ → ℕ → Cell Fraction) → IsValid net → Accepts net.wires entries → i < length net.wires → KeepsRange (wire_at net.wires i).item (get_or (get_or rows 0 []) (input_place net.wires i) (pos 0)) → m 0 i ≡ equation machine net.wires rows m i → e 0 i ≡ equation exact net.wires rows e i → ((k : ℕ) → k < i → IsValueHeld net.wires entries m e k) → WireHolds net.wires entries i m e
+wire_holds net entries rows i m e valid accepts h keeps p q held =
+    let w = wire_at net.wires i in
+    let entry = entry_holds net entries i accepts h in
+    let given = earlier_given net entries i m e h (arguments_earlier net valid i h) held in
+    let raw = wire_is_sound net entries i rows m e entry.bounds valid accepts.allowed h keeps given entry.rules in
+    let sound : IsSound net.wires w w.item entry.bounds m e (m 0 i) (e 0 i) = subst (λ c. IsSound net.wires w w.item entry.bounds m e c (e 0 i)) (sym p) (subst (IsSound net.wires w w.item entry.bounds m e (equation machine net.wires rows m i)) (sym q) raw) in
+    let keeps : IsKept w.kind (m 0 i) = subst (IsKept w.kind) (sym p) (equation_keeps net.wires rows i w.item m) in
+    let low : kind_least w.kind ≤ℤ (m 0 i).value_unsaturated = int_le_trans _ _ _ entry.least sound.within.low in
+    let high : (m 0 i).value_unsaturated ≤ℤ kind_greatest w.kind = int_le_trans _ _ _ sound.within.high entry.greatest in
     record {
       fits = record {
-        divisor = divides_well wires (wire_at wires i) (wire_at wires i).item (λ w. entry_of wires entries w Value) m e entry.ruled step given;
+        machine_divides = sound.machine_divides;
+        exact_divides = sound.exact_divides;
         value_low = low;
         value_high = high;
-        state_low = sound.state_low;
-        state_high = sound.state_high;
+        state_low = keeps.state_low;
+        state_high = keeps.state_high;
       };
-      held = within_at (entry_of wires entries i Value) _ _ _ (sound.kept low high) (within_wider bounds (entry_of wires entries i Value) _ _ entry.inside sound.value);
+      held = within_at (entry_of net.wires entries i Value) _ _ _ (keeps.kept low high) (within_wider entry.bounds (entry_of net.wires entries i Value) _ _ entry.inside sound.within);
     }
 
 -- ---- one row
 
-row_holds : (wires : List Wire) (entries : List Bounds) (rows : List (List ℤ)) (m : ℕ → ℕ → Cell ℤ) (e : ℕ → ℕ → Cell Fraction) → ((i : ℕ) → i < length wires → EntryHolds wires entries i) → ((i : ℕ) → i < length wires → ItemHasUnsignedStep (wire_at wires i).item (λ w. entry_of wires entries w Value)) → IsOrdered wires → ((i : ℕ) → i < length wires → KeepsRange (wire_at wires i).item (get_or (get_or rows 0 []) (input_place wires i) (pos 0))) → ((i : ℕ) → i < length wires → m 0 i ≡ equation machine wires rows m i) → ((i : ℕ) → i < length wires → e 0 i ≡ equation exact wires rows e i) → (i : ℕ) → i < length wires → WireHolds wires entries i m e
-row_holds wires entries rows m e entry step ordered keeps p q i h = by_smaller (λ n. n < length wires → WireHolds wires entries n m e) (λ n before l. wire_holds wires entries rows n m e (entry n l) (step n l) (ordered n l) (keeps n l) (p n l) (q n l) (λ k less. (before k less (omega arith)).held)) (suc i) i (omega arith) h
+row_holds : (net : NetData) (entries : List Bounds) (rows : List (List ℤ)) (m : ℕ → ℕ → Cell ℤ) (e : ℕ → ℕ → Cell Fraction) → IsValid net → Accepts net.wires entries → ((i : ℕ) → i < length net.wires → KeepsRange (wire_at net.wires i).item (get_or (get_or rows 0 []) (input_place net.wires i) (pos 0))) → ((i : ℕ) → i < length net.wires → m 0 i ≡ equation machine net.wires rows m i) → ((i : ℕ) → i < length net.wires → e 0 i ≡ equation exact net.wires rows e i) → (i : ℕ) → i < length net.wires → WireHolds net.wires entries i m e
+row_holds net entries rows m e valid accepts keeps p q i h = by_smaller (λ n. n < length net.wires → WireHolds net.wires entries n m e) (λ n before l. wire_holds net entries rows n m e valid accepts l (keeps n l) (p n l) (q n l) (λ k less. (before k less (omega arith)).held)) (suc i) i (omega arith) h
 
 -- ---- all rows
-
--- what the wires hold from row j on
-abbrev from_row : {V : Type 0} → Meaning V → List (List (Cell V)) → ℕ → ℕ → ℕ → Cell V
-from_row M table j ago w = cell_at M table (j + ago) w
 
 no_more : (j : ℕ) → j + 0 ≡ j
 no_more j = omega arith
@@ -97,24 +84,52 @@ no_more j = omega arith
 newest_row : (rows : List (List ℤ)) (j : ℕ) → get_or (drop j rows) 0 [] ≡ get_or rows j []
 newest_row rows j = get_or-drop j rows 0 [] ∙ ap (λ n. get_or rows n []) (no_more j)
 
-meets_at : {V : Type 0} (M : Meaning V) (wires : List Wire) (rows : List (List ℤ)) (table : List (List (Cell V))) → IsRun M wires rows table → (j i : ℕ) → j < length rows → i < length wires → from_row M table j 0 i ≡ equation M wires (drop j rows) (from_row M table j) i
-meets_at M wires rows table run j i h l = ap (λ n. cell_at M table n i) (no_more j) ∙ run.meets j i h l
+meets_at : {V : Type 0} (M : Meaning V) (wires : List Wire) (rows : List (List ℤ)) (t : List (List (Cell V))) → IsRun M wires rows t → (j i : ℕ) → j < length rows → i < length wires → cells_from M t j 0 i ≡ equation M wires (drop j rows) (cells_from M t j) i
+meets_at M wires rows t run j i h l = ap (λ n. cell_at M t n i) (no_more j) ∙ run.meets j i h l
 
-rows_hold : (net : NetData) (entries : List Bounds) → IsValid net → Accepts net.wires entries → (rows : List (List ℤ)) (m : List (List (Cell ℤ))) (e : List (List (Cell Fraction))) → Keeps net.wires rows → IsRun machine net.wires rows m → IsRun exact net.wires rows e → (j i : ℕ) → j < length rows → i < length net.wires → WireHolds net.wires entries i (from_row machine m j) (from_row exact e j)
-rows_hold net entries valid accepts rows m e keeps run run' j i h l =
-    row_holds net.wires entries (drop j rows) (from_row machine m j) (from_row exact e j)
-    (λ n k. entry_holds net.wires entries n accepts k)
-    (λ n k. unsigned_step net entries n (wire_at net.wires n).item valid accepts.sound k refl)
-    (arguments_earlier net valid)
+rows_hold : (net : NetData) (entries : List Bounds) → IsValid net → Accepts net.wires entries → (rows : List (List ℤ)) (tables : Tables) → Keeps net.wires rows → AreRuns net.wires rows tables → (j i : ℕ) → j < length rows → i < length net.wires → WireHolds net.wires entries i (cells_from machine tables.in_machine j) (cells_from exact tables.exactly j)
+rows_hold net entries valid accepts rows tables keeps runs j i h l =
+    row_holds net entries (drop j rows) (cells_from machine tables.in_machine j) (cells_from exact tables.exactly j) valid accepts
     (λ n k. subst (λ row. KeepsRange (wire_at net.wires n).item (get_or row (input_place net.wires n) (pos 0))) (sym (newest_row rows j)) ((keeps j h).ranges n k))
-    (λ n k. meets_at machine net.wires rows m run j n h k)
-    (λ n k. meets_at exact net.wires rows e run' j n h k)
+    (λ n k. meets_at machine net.wires rows tables.in_machine runs.in_machine j n h k)
+    (λ n k. meets_at exact net.wires rows tables.exactly runs.exactly j n h k)
     i l
 
-held_at : (wires : List Wire) (entries : List Bounds) (m : List (List (Cell ℤ))) (e : List (List (Cell Fraction))) (j i : ℕ) (role : Role) → IsHeld wires entries (from_row machine m j) (from_row exact e j) i → IsWithin (entry_of wires entries i role) (held_by role (cell_at machine m j i)) (held_by role (cell_at exact e j i))
-held_at wires entries m e j i Value h = subst (λ n. IsWithin (entry_of wires entries i Value) (cell_at machine m n i).value (cell_at exact e n i).value) (no_more j) h
+held_at : (wires : List Wire) (entries : List Bounds) (tables : Tables) (j i : ℕ) (role : Role) → IsValueHeld wires entries (cells_from machine tables.in_machine j) (cells_from exact tables.exactly j) i → IsWithin (entry_of wires entries i role) (held_by role (cell_at machine tables.in_machine j i)) (held_by role (cell_at exact tables.exactly j i))
+held_at wires entries tables j i Value h = subst (λ n. IsWithin (entry_of wires entries i Value) (cell_at machine tables.in_machine n i).value (cell_at exact tables.exactly n i).value) (no_more j) h
+
+-- ---- the two runs
+
+-- the computed tables
+computed : NetData → List (List ℤ) → Tables
+computed net rows = record { in_machine = table machine net.wires rows; exactly = table exact net.wires rows }
+
+all_inputs : (wires : List Wire) (rows : List (List ℤ)) → Keeps wires rows → HasAllInputs wires rows
+all_inputs wires rows keeps j h = (keeps j h).one_each
+
+computed_are_runs : (net : NetData) (rows : List (List ℤ)) → IsValid net → Keeps net.wires rows → AreRuns net.wires rows (computed net rows)
+unfolding computed
+computed_are_runs net rows valid keeps = record {
+  in_machine = table_is_run machine net valid rows (all_inputs net.wires rows keeps);
+  exactly = table_is_run exact net valid rows (all_inputs net.wires rows keeps);
+}
+
+by_fields : (a a' : List (List (Cell ℤ))) (b b' : List (List (Cell Fraction))) → a ≡ a' → b ≡ b' → ◌≡◌ {A = Tables} (record { in_machine = a; exactly = b }) (record { in_machine = a'; exactly = b' })
+by_fields a a' b b' p q = rw (p, q) refl
+
+only_runs : (net : NetData) (rows : List (List ℤ)) (one other : Tables) → IsValid net → AreRuns net.wires rows one → AreRuns net.wires rows other → other ≡ one
+only_runs net rows one other valid r s =
+    by_fields other.in_machine one.in_machine other.exactly one.exactly (runs_agree machine net valid rows other.in_machine one.in_machine s.in_machine r.in_machine) (runs_agree exact net valid rows other.exactly one.exactly s.exactly r.exactly)
 
 pub certificates_hold : CertificatesHold
-certificates_hold net entries valid accepts rows m e keeps run run' =
-    let holds = rows_hold net entries valid accepts rows m e keeps run run' in
-    (λ j i h l. subst (FitsAt net.wires (wire_at net.wires i) (from_row machine m j) (from_row exact e j)) (ap (λ n. cell_at machine m n i) (no_more j)) (holds j i h l).fits, λ j i role h l has. held_at net.wires entries m e j i role (holds j i h l).held)
+certificates_hold net entries valid accepts rows keeps =
+    let tables = computed net rows in
+    let runs = computed_are_runs net rows valid keeps in
+    let holds = rows_hold net entries valid accepts rows tables keeps runs in
+    record {
+      tables = tables;
+      are_runs = runs;
+      are_only = λ others s. only_runs net rows tables others valid runs s;
+      fits = λ j i h l. subst (FitsAt net.wires (wire_at net.wires i) (cells_from machine tables.in_machine j) (cells_from exact tables.exactly j)) (ap (λ n. cell_at machine tables.in_machine n i) (no_more j)) (holds j i h l).fits;
+      within = λ j i role h l has. held_at net.wires entries tables j i role (holds j i h l).held;
+    }

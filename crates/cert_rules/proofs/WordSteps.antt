@@ -101,8 +101,8 @@ is_factor n low near =
       wide = rw plain (omega (arith, ints, near));
     }
 
-pub reach_factor : (n : ℤ) → pos 0 ≤ℤ n → n <ℤ pos (2 ^ 32) → IsFactor n
-reach_factor n low high = is_factor n low (omega (arith, ints, high))
+pub magnitude_factor : (n : ℤ) → pos 0 ≤ℤ n → n <ℤ pos (2 ^ 32) → IsFactor n
+magnitude_factor n low high = is_factor n low (omega (arith, ints, high))
 
 pub error_factor : (b : Bounds) (n : ℤ) → IsSmall b → n ≡ to_z w64 (of_z w64 b.err) → IsFactor n
 error_factor b n small e =

@@ -12,9 +12,10 @@ use Rattle.cert_rules.specs.declared.bounds.Bounds.{Bounds}
 use Rattle.cert_rules.specs.Certificates.{no_bounds, entry_of}
 use Rattle.cert_rules.specs.Rules.{is_allowed, rule_of}
 
--- an entry is allowed for a part, its range isn't empty and its error isn't negative
-abbrev pub is_sound_entry : List Wire → Part → Bounds → Bool
-is_sound_entry wires part b = is_allowed (wire_at wires part.wire.0).kind part.role b && int_le b.lo b.hi && int_le (pos 0) b.err
+-- an entry is allowed: its bounds are allowed for the part, its range isn't empty and its error isn't negative
+abbrev pub is_allowed_entry : List Wire → Part → Bounds → Bool
+is_allowed_entry wires part b =
+    is_allowed (wire_at wires part.wire.0).kind part.role b && int_le b.lo b.hi && int_le (pos 0) b.err
 
 -- the value from which a part starts, where it starts from one: no part of a built block does
 abbrev pub start_of : Item → Role → Option ℤ
@@ -32,9 +33,12 @@ abbrev pub lies_inside : Option Bounds → Bounds → Bool
 lies_inside None entry = false
 lies_inside (Some r) entry = int_le entry.lo r.lo && int_le r.hi entry.hi && int_le r.err entry.err
 
--- a part starts within its entry, and its rule gives no more than the entry allows
+-- an entry is inductive: its part starts within it, and the part's rule, from the entries of all parts, gives bounds that lie
+-- within it
 abbrev pub is_inductive_entry : List Wire → List Bounds → Part → Bounds → Bool
-is_inductive_entry wires entries part b = starts_inside (start_of (wire_at wires part.wire.0).item part.role) b && lies_inside (rule_of wires part.wire.0 part.role (entry_of wires entries)) b
+is_inductive_entry wires entries part b =
+    starts_inside (start_of (wire_at wires part.wire.0).item part.role) b
+    && lies_inside (rule_of wires part.wire.0 part.role (entry_of wires entries)) b
 
 -- part number k of a network, from 0
 abbrev pub part_at : List Wire → ℕ → Part
@@ -44,20 +48,32 @@ part_at wires k = get_or (parts_of wires) k no_part
 abbrev pub entry_at : List Bounds → ℕ → Bounds
 entry_at entries k = get_or entries k no_bounds
 
--- the first test of part number k: its entry is sound
-unfoldable pub is_sound_at : List Wire → List Bounds → ℕ → Bool
-is_sound_at wires entries k = is_sound_entry wires (part_at wires k) (entry_at entries k)
+-- the first test of part number k: its entry is allowed
+unfoldable pub is_allowed_at : List Wire → List Bounds → ℕ → Bool
+is_allowed_at wires entries k = is_allowed_entry wires (part_at wires k) (entry_at entries k)
 
 -- the second test of part number k: its entry is inductive
 unfoldable pub is_inductive_at : List Wire → List Bounds → ℕ → Bool
 is_inductive_at wires entries k = is_inductive_entry wires entries (part_at wires k) (entry_at entries k)
 
--- a certificate is accepted: the network is smooth, there is one entry for each part, and each is sound and inductive
+-- each part's entry is allowed
+abbrev pub AreAllowed : List Wire → List Bounds → Type 0
+AreAllowed wires entries = (k : ℕ) → k < length (parts_of wires) → IsTrue (is_allowed_at wires entries k)
+
+-- each part's entry is inductive
+abbrev pub AreInductive : List Wire → List Bounds → Type 0
+AreInductive wires entries = (k : ℕ) → k < length (parts_of wires) → IsTrue (is_inductive_at wires entries k)
+
+-- a certificate of a network is accepted
 pub record Accepts (wires : List Wire) (entries : List Bounds) : Type 0 where
+  -- the network is smooth
   pub smooth : IsSmooth wires
+  -- there is one entry for each part
   pub complete : length entries ≡ length (parts_of wires)
-  pub sound : (k : ℕ) → k < length (parts_of wires) → IsTrue (is_sound_at wires entries k)
-  pub inductive : (k : ℕ) → k < length (parts_of wires) → IsTrue (is_inductive_at wires entries k)
+  -- each entry is allowed
+  pub allowed : AreAllowed wires entries
+  -- each is inductive
+  pub inductive : AreInductive wires entries
 
 -- the first of n numbers, from k on, that fails a test
 unfoldable pub first_failing : (ℕ → Bool) → ℕ → ℕ → Option ℕ
@@ -69,7 +85,10 @@ abbrev pub or_later : Option ℕ → Option ℕ → Option ℕ
 or_later (Some k) later = Some k
 or_later None later = later
 
--- the number of the first part that fails: the first whose entry isn't sound; where all are, the first whose isn't
+-- the number of the first part that fails: the first whose entry isn't allowed; where all are, the first whose isn't
 -- inductive
 unfoldable pub first_rejected : List Wire → List Bounds → Option ℕ
-first_rejected wires entries = or_later (first_failing (is_sound_at wires entries) 0 (length (parts_of wires))) (first_failing (is_inductive_at wires entries) 0 (length (parts_of wires)))
+first_rejected wires entries =
+    or_later
+    (first_failing (is_allowed_at wires entries) 0 (length (parts_of wires)))
+    (first_failing (is_inductive_at wires entries) 0 (length (parts_of wires)))

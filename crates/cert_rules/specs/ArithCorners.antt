@@ -1,16 +1,12 @@
--- What the functions of the rules of arithmetic read: three numbers, and three bounds, as an operation's arguments.
-use Rattle.std.specs.Prelude.{ℕ, zero, suc, ◌≤◌, ℤ, unsigned_abs}
+-- What the functions of the rules of arithmetic compute, from three numbers and from three bounds. No public clause needs
+-- this: the clauses of private functions do.
+use Rattle.std.specs.Prelude.{ℕ, ◌≤◌, ℤ, unsigned_abs}
 use Rattle.std.specs.Int.{int_min, int_max}
+use Rattle.fx_core.specs.Arguments.{three}
 use Rattle.fx_routines.specs.declared.operation.ArithOp.{ArithOp}
 use Rattle.fx_routines.specs.declared.operation.ArithOp.TheVariants.{Div, MulDiv, DivShLeft}
 use Rattle.cert_rules.specs.declared.bounds.Bounds.{Bounds}
 use Rattle.cert_rules.specs.ArithRules.{arith_rounded}
-
--- three as arguments; what an operation doesn't have isn't looked at
-abbrev pub three : {A : Type 0} → A → A → A → ℕ → A
-three x y z zero = x
-three x y z (suc zero) = y
-three x y z (suc (suc p)) = z
 
 -- an operation's value at three whole numbers, rounded and not saturated
 unfoldable pub corner_value : ArithOp → ℕ → ℤ → ℤ → ℤ → ℤ

@@ -1,19 +1,16 @@
 -- What the rules of arithmetic promise of one operation.
-use Rattle.std.specs.Prelude.{◌≡◌, ℕ, ◌<◌, Bool, true, false, ℤ, pos, ◌≤ℤ◌, IfSome, IsTrue}
-use Rattle.fx_fraction.specs.Fraction.{Fraction, whole, is_zero}
+use Rattle.std.specs.Prelude.{◌≡◌, ℕ, ◌<◌, false, ℤ, pos, ◌≤ℤ◌, IsTrue}
+use Rattle.fx_fraction.specs.Fraction.{Fraction, whole}
+use Rattle.fx_core.specs.Values.{Divides}
 use Rattle.fx_routines.specs.declared.operation.ArithOp.{ArithOp}
-use Rattle.fx_routines.specs.declared.operation.ArithOp.TheVariants.{Mod, RateLimiter}
+use Rattle.fx_routines.specs.declared.operation.ArithOp.TheVariants.{RateLimiter}
 use Rattle.mfx_arith.specs.Formulas.{arith_formula, quotient_of}
+use Rattle.mfx_arith.specs.Operations.{arith_arity, is_smooth_operation}
 use Rattle.cert_rules.specs.declared.bounds.Bounds.{Bounds}
 use Rattle.cert_rules.specs.Certificates.{IsWithin}
-use Rattle.cert_rules.specs.ArithRules.{arith_arity, arith_rounded, arith_may_divide_by_zero, arith_bounds}
+use Rattle.cert_rules.specs.ArithRules.{arith_rounded, arith_may_divide_by_zero, arith_bounds}
 
--- the operations that have a rule: all but the remainder
-abbrev pub has_rule : ArithOp → Bool
-has_rule Mod = false
-has_rule other = true
-
--- the step of a rate limiter is of an unsigned type, so its range isn't below 0
+-- the step of a rate limiter isn't below 0: in a network its type is unsigned
 abbrev pub HasUnsignedStep : ArithOp → (ℕ → Bounds) → Type 0
 HasUnsignedStep RateLimiter given = pos 0 ≤ℤ (given 2).lo
 HasUnsignedStep other given = Unit {0}
@@ -22,18 +19,20 @@ HasUnsignedStep other given = Unit {0}
 abbrev pub AreWithin : ArithOp → (ℕ → Bounds) → (ℕ → ℤ) → (ℕ → Fraction) → Type 0
 AreWithin op given m e = (p : ℕ) → p < arith_arity op → IsWithin (given p) (m p) (e p)
 
--- the operation doesn't divide by 0
-abbrev pub DividesWell : ArithOp → ℕ → (ℕ → Fraction) → Type 0
-DividesWell op shift given = IfSome (quotient_of op shift given) (λ q. is_zero q.1 ≡ false)
-
--- an operation's value by its rule: no divisor is 0, neither in the machine nor as a fraction, and the rounded value at
--- the whole numbers is within the rule's bounds of the value at the fractions
+-- an operation keeps its rule at whole numbers m and fractions e
 pub record KeepsRule (op : ArithOp) (shift : ℕ) (given : ℕ → Bounds) (m : ℕ → ℤ) (e : ℕ → Fraction) : Type 0 where
-  pub machine_divides : DividesWell op shift (λ p. whole (m p))
-  pub exact_divides : DividesWell op shift e
+  -- its divisor isn't 0 at the whole numbers
+  pub machine_divides : Divides (quotient_of op shift (λ p. whole (m p)))
+  -- nor is it at the fractions
+  pub exact_divides : Divides (quotient_of op shift e)
+  -- the rounded value at the whole numbers is within the rule's bounds of the value at the fractions
   pub within : IsWithin (arith_bounds op shift given) (arith_rounded op shift m) (arith_formula op shift e)
 
--- the rules of arithmetic are sound: for each operation that has one, where its divisor can't be 0 and its arguments are
--- within their bounds
+-- the rules of arithmetic are sound: each operation that has one keeps it where its divisor can't be 0, a step isn't below 0,
+-- and the arguments are within their bounds
 abbrev pub ArithRulesAreSound : Type 0
-ArithRulesAreSound = (op : ArithOp) → IsTrue (has_rule op) → (shift : ℕ) (given : ℕ → Bounds) (m : ℕ → ℤ) (e : ℕ → Fraction) → arith_may_divide_by_zero op given ≡ false → HasUnsignedStep op given → AreWithin op given m e → KeepsRule op shift given m e
+ArithRulesAreSound =
+    (op : ArithOp) → IsTrue (is_smooth_operation op) →
+    (shift : ℕ) (given : ℕ → Bounds) (m : ℕ → ℤ) (e : ℕ → Fraction) →
+    arith_may_divide_by_zero op given ≡ false → HasUnsignedStep op given → AreWithin op given m e →
+    KeepsRule op shift given m e

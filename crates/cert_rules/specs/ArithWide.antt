@@ -1,4 +1,4 @@
--- What wide bounds say, as bounds.
+-- What wide bounds say, as bounds. No public clause needs this: the clauses of private functions do.
 use Rattle.cert_rules.specs.declared.bounds.Bounds.{Bounds}
 use Rattle.cert_rules.specs.declared.arith_ruling.WideBounds.{WideBounds}
 

@@ -7,6 +7,7 @@ use Rattle.net_model.specs.declared.wires.Wire.{Wire}
 use Rattle.net_model.specs.Wires.{wire_at, roles_of, parts_of, place_in, has_role}
 use Rattle.net_meaning.specs.Cells.{Cell, cell_at}
 use Rattle.net_meaning.specs.Blocks.{machine, exact}
+use Rattle.net_meaning.specs.Runs.{Tables}
 use Rattle.cert_rules.specs.declared.bounds.Bounds.{Bounds}
 
 -- the bounds that are read where there are none
@@ -21,12 +22,19 @@ entry_of wires entries wire role = get_or entries (place_in wire role (parts_of 
 abbrev pub held_by : {V : Type 0} → Role → Cell V → V
 held_by Value cell = cell.value
 
--- a machine's value lies in the range, and differs from the exact one by at most the error
+-- a value of the machine and one in exact fractions are within bounds
 pub record IsWithin (b : Bounds) (m : ℤ) (e : Fraction) : Type 0 where
+  -- the machine's value isn't below the range
   pub low : b.lo ≤ℤ m
+  -- nor is it above
   pub high : m ≤ℤ b.hi
+  -- it differs from the exact value by at most the error, which is in units of 1/65536 of a raw count
   pub near : AtMost (distance (whole m) e) (over b.err 65536)
 
--- at each row and for each part of a wire, the machine's value is within the certificate's bounds
-abbrev pub Within : List Wire → List Bounds → List (List ℤ) → List (List (Cell ℤ)) → List (List (Cell Fraction)) → Type 0
-Within wires entries rows m e = (j i : ℕ) (role : Role) → j < length rows → i < length wires → IsTrue (has_role role (roles_of (wire_at wires i).item)) → IsWithin (entry_of wires entries i role) (held_by role (cell_at machine m j i)) (held_by role (cell_at exact e j i))
+-- at each row, each part of each wire is within the certificate's bounds
+abbrev pub Within : List Wire → List Bounds → List (List ℤ) → Tables → Type 0
+Within wires entries rows tables =
+    (j i : ℕ) (role : Role) → j < length rows → i < length wires → IsTrue (has_role role (roles_of (wire_at wires i).item)) →
+    IsWithin (entry_of wires entries i role)
+    (held_by role (cell_at machine tables.in_machine j i))
+    (held_by role (cell_at exact tables.exactly j i))

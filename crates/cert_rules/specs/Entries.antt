@@ -1,15 +1,8 @@
--- What is known of entries that are sound: that each is, and how small one is.
-use Rattle.std.specs.Prelude.{ℕ, ◌<◌, ◌^◌, Bool, ◌&&◌, List, length, pos, negsuc, ◌≤ℤ◌, ◌<ℤ◌, int_le, int_lt, IsTrue, Option, Some, None, if◌then◌else◌}
-use Rattle.net_model.specs.declared.wires.Wire.{Wire}
-use Rattle.net_model.specs.Wires.{parts_of}
+-- How small an entry is that is allowed. No public clause needs this: the clauses of private functions do.
+use Rattle.std.specs.Prelude.{◌^◌, Bool, ◌&&◌, pos, negsuc, ◌≤ℤ◌, ◌<ℤ◌, int_le, int_lt, Option, Some, None, if◌then◌else◌}
 use Rattle.cert_rules.specs.declared.bounds.Bounds.{Bounds}
-use Rattle.cert_rules.specs.Acceptance.{is_sound_at}
 
--- each part's entry is sound
-abbrev pub AreSound : List Wire → List Bounds → Type 0
-AreSound wires entries = (k : ℕ) → k < length (parts_of wires) → IsTrue (is_sound_at wires entries k)
-
--- bounds of a sound entry, whatever its part: the range isn't empty and lies between the ends of all types, and the
+-- bounds of a allowed entry, whatever its part: the range isn't empty and lies between the ends of all types, and the
 -- error is neither negative nor above the largest cap
 pub record IsSmall (b : Bounds) : Type 0 where
   pub low : negsuc 2147483647 ≤ℤ b.lo

@@ -13,4 +13,5 @@ pub mod Acceptance
 pub mod Entries
 pub mod Proper
 pub mod Arguments
+pub mod Soundness
 pub mod Theorem

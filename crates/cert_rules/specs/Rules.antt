@@ -10,9 +10,9 @@ use Rattle.net_model.specs.declared.wires.Role.TheVariants.{Value}
 use Rattle.net_model.specs.declared.wires.Wire.{Wire}
 use Rattle.net_model.specs.Wires.{wire_at, kind_least, kind_greatest, argument_of}
 use Rattle.net_meaning.specs.Blocks.{points_of}
+use Rattle.mfx_arith.specs.Operations.{is_smooth_operation}
 use Rattle.cert_rules.specs.declared.bounds.Bounds.{Bounds}
 use Rattle.cert_rules.specs.ArithRules.{arith_may_divide_by_zero, arith_bounds}
-use Rattle.cert_rules.specs.ArithSoundness.{has_rule}
 use Rattle.cert_rules.specs.ScaledRules.{scaled_may_divide_by_zero, scaled_bounds}
 
 -- the bounds of a block's arguments, by their number, where `known` has those of each wire
@@ -31,31 +31,37 @@ part_greatest kind Value = kind_greatest kind
 abbrev pub error_cap : Role → ℤ
 error_cap Value = pos (2 ^ 40)
 
--- bounds are allowed for a part where their range lies between its ends and their error is below its cap
-unfoldable pub is_allowed : Kind → Role → Bounds → Bool
-is_allowed kind role b = int_le (part_least kind role) b.lo && int_le b.hi (part_greatest kind role) && int_lt b.err (error_cap role)
+-- a number lies between the ends of a part
+abbrev pub is_between_ends : Kind → Role → ℤ → Bool
+is_between_ends kind role n = int_le (part_least kind role) n && int_le n (part_greatest kind role)
 
--- whether a block's value gets no bounds: its operation has no rule, or its divisor may be 0
-abbrev pub block_may_fail : Block → (ℕ → Bounds) → Bool
-block_may_fail (Arith op v x y z sh) known = not (has_rule op) || arith_may_divide_by_zero op (arguments_of (Arith op v x y z sh) known)
-block_may_fail (Scaled op v x y) known = scaled_may_divide_by_zero op (arguments_of (Scaled op v x y) known)
+-- bounds are allowed for a part where both ends of their range lie between the part's ends, and their error is below its cap
+unfoldable pub is_allowed : Kind → Role → Bounds → Bool
+is_allowed kind role b = is_between_ends kind role b.lo && is_between_ends kind role b.hi && int_lt b.err (error_cap role)
+
+-- whether there is no rule for a block's value: its operation isn't smooth, or its divisor may be 0
+abbrev pub block_has_no_rule : Block → (ℕ → Bounds) → Bool
+block_has_no_rule (Arith op v x y z shift) known =
+    not (is_smooth_operation op) || arith_may_divide_by_zero op (arguments_of (Arith op v x y z shift) known)
+block_has_no_rule (Scaled op v x y) known = scaled_may_divide_by_zero op (arguments_of (Scaled op v x y) known)
 
 -- the same of a wire's value
-abbrev pub may_fail : Item → (ℕ → Bounds) → Bool
-may_fail (Input lo hi) known = false
-may_fail (Const value) known = false
-may_fail (OfBlock b) known = block_may_fail b known
+abbrev pub has_no_rule : Item → (ℕ → Bounds) → Bool
+has_no_rule (Input lo hi) known = false
+has_no_rule (Const value) known = false
+has_no_rule (OfBlock b) known = block_has_no_rule b known
 
 -- the bounds of a wire's value, from those of each wire's value, before it is asked whether they are allowed
 unfoldable pub proposed : List Wire → Kind → Item → (ℕ → Bounds) → Bounds
 proposed wires kind (Input lo hi) known = record { lo = lo; hi = hi; err = pos 0 }
 proposed wires kind (Const value) known = record { lo = value; hi = value; err = pos 0 }
-proposed wires kind (OfBlock (Arith op v x y z sh)) known = arith_bounds op sh (arguments_of (Arith op v x y z sh) known)
-proposed wires kind (OfBlock (Scaled op v x y)) known = scaled_bounds op (points_of wires kind (Scaled op v x y)) (arguments_of (Scaled op v x y) known)
+proposed wires kind (OfBlock (Arith op v x y z shift)) known = arith_bounds op shift (arguments_of (Arith op v x y z shift) known)
+proposed wires kind (OfBlock (Scaled op v x y)) known =
+    let b = Scaled op v x y in scaled_bounds op (points_of wires kind b) (arguments_of b known)
 
--- the same; none where the wire's value gets no bounds
+-- the same; none where there is no rule for the wire's value
 abbrev pub bounds_of : List Wire → Kind → Item → (ℕ → Bounds) → Option Bounds
-bounds_of wires kind item known = if may_fail item known then None else Some (proposed wires kind item known)
+bounds_of wires kind item known = if has_no_rule item known then None else Some (proposed wires kind item known)
 
 -- bounds, where they are allowed
 abbrev pub if_allowed : Kind → Role → Bounds → Option Bounds
@@ -66,7 +72,8 @@ abbrev pub allowed_of : Kind → Role → Option Bounds → Option Bounds
 allowed_of kind role None = None
 allowed_of kind role (Some b) = if_allowed kind role b
 
--- the rule of a part of wire i: its bounds, from those of all parts (`all w r` are those of part r of wire w); none
--- where the wire's value gets no bounds, or where they aren't allowed
+-- the rule of a part of wire i: its bounds, from those of all parts (`all k r` are those of part r of wire k); none
+-- where there is no rule for it, or where the bounds aren't allowed
 unfoldable pub rule_of : List Wire → ℕ → Role → (ℕ → Role → Bounds) → Option Bounds
-rule_of wires i Value all = if may_fail (wire_at wires i).item (λ w. all w Value) then None else if_allowed (wire_at wires i).kind Value (proposed wires (wire_at wires i).kind (wire_at wires i).item (λ w. all w Value))
+rule_of wires i Value all =
+    let w = wire_at wires i in allowed_of w.kind Value (bounds_of wires w.kind w.item (λ k. all k Value))

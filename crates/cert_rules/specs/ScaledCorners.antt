@@ -1,16 +1,13 @@
--- What the functions of the rules of the forms read: two numbers, and two bounds, as a form's arguments.
-use Rattle.std.specs.Prelude.{ℕ, zero, suc, ◌≤◌, ℤ, unsigned_abs}
+-- What the functions of the rules of the forms compute, from two numbers and from two bounds. No public clause needs this:
+-- the clauses of private functions do.
+use Rattle.std.specs.Prelude.{◌≤◌, ℤ, unsigned_abs}
 use Rattle.std.specs.Int.{int_min, int_max}
+use Rattle.fx_core.specs.Arguments.{two}
 use Rattle.fx_routines.specs.declared.operation.ScaledOp.{ScaledOp}
 use Rattle.fx_routines.specs.declared.operation.ScaledOp.TheVariants.{Div}
 use Rattle.mfx_scaled.specs.declared.binary_points.Points.{Points}
 use Rattle.cert_rules.specs.declared.bounds.Bounds.{Bounds}
 use Rattle.cert_rules.specs.ScaledRules.{scaled_rounded}
-
--- two as arguments; what a form doesn't have isn't looked at
-abbrev pub two : {A : Type 0} → A → A → ℕ → A
-two x y zero = x
-two x y (suc p) = y
 
 -- no binary point is above 15
 pub record AreLow (points : Points) : Type 0 where

@@ -1,26 +1,21 @@
 -- The rule of each form with binary points alone: its bounds, from those of its arguments. `given p` are the bounds of
 -- argument number p, from 0, and `points` the binary points of the first input, the second input and the output.
-use Rattle.std.specs.Prelude.{ℕ, ◌+◌, ◌-◌, max, Bool, false, List, [], ◌++◌, map, get_or, ℤ, pos, ◌+ℤ◌, ◌-ℤ◌, ◌*ℤ◌}
+use Rattle.std.specs.Prelude.{ℕ, ◌+◌, ◌-◌, max, Bool, false, List, [], ◌++◌, map, get_or, ℤ, pos, ◌+ℤ◌, ◌*ℤ◌}
 use Rattle.fx_fraction.specs.Fraction.{whole}
 use Rattle.fx_core.specs.declared.quotient.Mode.TheVariants.{Zero}
-use Rattle.fx_core.specs.Rounding.{least_quotient_above, power}
+use Rattle.fx_core.specs.Rounding.{power}
 use Rattle.fx_core.specs.Values.{rounded_fraction}
 use Rattle.fx_routines.specs.declared.operation.ScaledOp.{ScaledOp}
 use Rattle.fx_routines.specs.declared.operation.ScaledOp.TheVariants.{Convert, Add, Sub, AbsDiff, Mul, Div}
 use Rattle.mfx_scaled.specs.declared.binary_points.Points.{Points}
 use Rattle.mfx_scaled.specs.Counts.{raised}
 use Rattle.mfx_scaled.specs.Formulas.{scaled_formula}
+use Rattle.mfx_scaled.specs.Operations.{scaled_arity}
 use Rattle.cert_rules.specs.declared.bounds.Bounds.{Bounds}
 use Rattle.cert_rules.specs.Ranges.{given_bounds, corners_of, least_among, greatest_among}
-use Rattle.cert_rules.specs.Units.{one_count}
-use Rattle.cert_rules.specs.ArithRules.{least_reach, may_be_zero, product_error, reach, shifted_error, zero_between}
+use Rattle.cert_rules.specs.ArithRules.{magnitude, may_be_zero, product_error, quotient_error, shifted_error, zero_between}
 
 -- ---- ranges
-
--- how many arguments a form has
-abbrev pub scaled_arity : ScaledOp → ℕ
-scaled_arity Convert = 1
-scaled_arity other = 2
 
 -- a form's value at whole numbers, rounded and not saturated
 abbrev pub scaled_rounded : ScaledOp → Points → (ℕ → ℤ) → ℤ
@@ -58,10 +53,6 @@ highest points = max (max points.a points.b) points.c
 unfoldable pub sum_error : Points → ℤ → ℤ → ℤ
 sum_error points first second = shifted_error (highest points - points.c) (raised first points.a (highest points) +ℤ raised second points.b (highest points))
 
--- the error of a quotient whose divisor is multiplied by two to the power of k, from the reach and the error of the dividend
-unfoldable pub raised_quotient_error : ℕ → ℤ → ℤ → Bounds → ℤ
-raised_quotient_error k top err y = least_quotient_above (one_count *ℤ (top *ℤ y.err +ℤ least_reach y *ℤ err)) (least_reach y *ℤ (one_count *ℤ least_reach y -ℤ y.err) *ℤ power k) +ℤ one_count
-
 -- the error of each form
 abbrev pub scaled_error : ScaledOp → Points → (ℕ → Bounds) → ℤ
 scaled_error Convert points given = converted_error points.a points.c (given 0).err
@@ -69,7 +60,7 @@ scaled_error Add points given = sum_error points (given 0).err (given 1).err
 scaled_error Sub points given = sum_error points (given 0).err (given 1).err
 scaled_error AbsDiff points given = sum_error points (given 0).err (given 1).err
 scaled_error Mul points given = converted_error (points.a + points.b) points.c (product_error (given 0) (given 1))
-scaled_error Div points given = raised_quotient_error (points.a - (points.c + points.b)) (reach (given 0) *ℤ power (points.c + points.b - points.a)) ((given 0).err *ℤ power (points.c + points.b - points.a)) (given 1)
+scaled_error Div points given = quotient_error (points.a - (points.c + points.b)) (magnitude (given 0) *ℤ power (points.c + points.b - points.a)) ((given 0).err *ℤ power (points.c + points.b - points.a)) (given 1)
 
 -- ---- the rule
 

@@ -42,9 +42,9 @@ fn reads_at(net: &Network, part: PartNo, other: PartNo) -> bool
     reads(item_at(net, wire), part_numbered(net, other))
 }
 
-/// Whether the rule of a wire's value reads a part.
+/// Whether the rule of a part of a wire with this item reads another part.
 fn reads(item: Item, part: Part) -> bool
-    ensures { result ≡ reads item part }
+    ensures { (ruled : Part) → result ≡ reads item ruled part }
 {
     match item {
         Item::Input { .. } | Item::Const { .. } => false,

@@ -2,13 +2,13 @@
 // at most 32 bits and errors at most 40, so the error of a product has at most 74, and no number here
 // more than 126.
 
-ghost use Rattle.std.specs.Prelude.{◌≡◌, ℕ, pos, ◌*◌, ◌^◌, ◌<◌, ◌≤◌, ◌≤ℤ◌, ◌<ℤ◌, ◌+ℤ◌, ◌-ℤ◌, ◌*ℤ◌, false, unsigned_abs, IsTrue};
+ghost use Rattle.std.specs.Prelude.{◌≡◌, ℕ, pos, ◌*◌, ◌^◌, ◌<◌, ◌≤◌, ◌≤ℤ◌, ◌<ℤ◌, ◌+ℤ◌, ◌*ℤ◌, false, unsigned_abs, IsTrue};
 ghost use Rattle.std.specs.Int.{int_max};
-ghost use Rattle.cert_rules.specs.ArithCorners.{three};
-ghost use Rattle.cert_rules.specs.ArithSoundness.{has_rule};
+ghost use Rattle.fx_core.specs.Arguments.{three};
+ghost use Rattle.mfx_arith.specs.Operations.{is_smooth_operation};
 ghost use Rattle.fx_core.specs.Rounding.{power};
-ghost use Rattle.cert_rules.specs.ArithRules.{arith_error, arith_may_divide_by_zero, holds_zero, least_reach, may_be_zero, product_error, quotient_error, reach, shifted_error};
-ghost use Rattle.cert_rules.specs.ScaledRules.{raised_quotient_error};
+ghost use Rattle.cert_rules.specs.ArithRules.{arith_error, arith_may_divide_by_zero, cross_error, holds_zero, least_divisors, magnitude, may_be_zero, mignitude, product_error, quotient_error, shifted_error};
+ghost use Rattle.cert_rules.specs.Units.{one_count};
 ghost use Rattle.cert_rules.specs.Entries.{IsSmall};
 
 use crate::bounds::Bounds;
@@ -21,7 +21,7 @@ const ONE_COUNT: i128 = 65536;
 
 /// The error of an operation's value.
 pub(crate) fn error_of(op: ArithOp, shift: u8, x: Bounds, y: Bounds, z: Bounds) -> i128
-    requires rule { IsTrue (has_rule op) }
+    requires rule { IsTrue (is_smooth_operation op) }
     requires shift { shift ≤ 15 }
     requires first { IsSmall x }
     requires second { IsSmall y }
@@ -33,7 +33,7 @@ pub(crate) fn error_of(op: ArithOp, shift: u8, x: Bounds, y: Bounds, z: Bounds) 
         ArithOp::Add | ArithOp::Sub | ArithOp::AbsDiff => sum_error(x, y),
         ArithOp::Abs => i128::from(x.err),
         ArithOp::Mul => product_error(x, y),
-        ArithOp::Div => quotient_error(reach(x), i128::from(x.err), y),
+        ArithOp::Div => quotient_error(0, magnitude(x), i128::from(x.err), y),
         ArithOp::Mod => unreachable!(),
         ArithOp::MulDiv => product_quotient_error(x, y, z),
         ArithOp::MulShRight => shifted_error(shift, product_error(x, y)),
@@ -58,31 +58,31 @@ fn greater_error(x: Bounds, y: Bounds) -> i128
     greater(i128::from(x.err), i128::from(y.err))
 }
 
-/// The greatest absolute value in a range.
-pub(crate) fn reach(b: Bounds) -> i128
+/// The magnitude of a range: the greatest absolute value in it.
+pub(crate) fn magnitude(b: Bounds) -> i128
     requires { IsSmall b }
-    ensures value { result ≡ reach b }
+    ensures value { result ≡ magnitude b }
     ensures low { pos 0 ≤ℤ result }
     ensures high { result <ℤ pos (2 ^ 32) }
 {
-    greater(magnitude(b.lo), magnitude(b.hi))
+    greater(absolute(b.lo), absolute(b.hi))
 }
 
-/// The least absolute value in a range.
-fn least_reach(b: Bounds) -> i128
+/// The mignitude of a range: the least absolute value in it.
+fn mignitude(b: Bounds) -> i128
     requires { IsSmall b }
-    ensures value { result ≡ least_reach b }
+    ensures value { result ≡ mignitude b }
     ensures low { pos 0 ≤ℤ result }
     ensures high { result <ℤ pos (2 ^ 32) }
 {
     if holds_zero(b) {
         0
     } else {
-        lesser(magnitude(b.lo), magnitude(b.hi))
+        lesser(absolute(b.lo), absolute(b.hi))
     }
 }
 
-fn magnitude(end: i64) -> i128
+fn absolute(end: i64) -> i128
     requires { unsigned_abs end < 2 ^ 32 }
     ensures value { result ≡ pos (unsigned_abs end) }
     ensures high { result <ℤ pos (2 ^ 32) }
@@ -102,7 +102,7 @@ pub(crate) fn may_be_zero(y: Bounds) -> bool
     requires { IsSmall y }
     ensures { result ≡ may_be_zero y }
 {
-    holds_zero(y) || ONE_COUNT * least_reach(y) <= i128::from(y.err)
+    holds_zero(y) || ONE_COUNT * mignitude(y) <= i128::from(y.err)
 }
 
 /// The error of a product.
@@ -115,8 +115,8 @@ pub(crate) fn product_error(x: Bounds, y: Bounds) -> i128
     ensures high { result <ℤ pos (2 ^ 74) }
 {
     let (x_err, y_err) = (i128::from(x.err), i128::from(y.err));
-    let first = product(reach(x), y_err);
-    let second = product(reach(y), x_err);
+    let first = product(magnitude(x), y_err);
+    let second = product(magnitude(y), x_err);
     let both = product(x_err, y_err);
     first + second + ceil_div(both, ONE_COUNT)
 }
@@ -136,23 +136,10 @@ pub(crate) fn shifted_error(shift: u8, err: i128) -> i128
     }
 }
 
-/// The error of a quotient, from the reach `top` and the error of the dividend.
+/// The error of a quotient whose divisor is multiplied by two to the power of `shift`, from the magnitude
+/// `top` and the error of the dividend.
 #[tactic(auto, unfolding(crate::specs::ArithRules::quotient_error))]
-pub(crate) fn quotient_error(top: i128, err: i128, y: Bounds) -> i128
-    requires top_low { pos 0 ≤ℤ top }
-    requires top_high { top <ℤ pos (2 ^ 64) }
-    requires low { pos 0 ≤ℤ err }
-    requires high { err <ℤ pos (2 ^ 74) }
-    requires divisor { IsSmall y }
-    requires nonzero { may_be_zero y ≡ false }
-    ensures { result ≡ quotient_error top err y }
-{
-    ceil_div(moves(top, err, y), divisors(y)) + ONE_COUNT
-}
-
-/// The same of a quotient whose divisor is multiplied by two to the power of `shift`.
-#[tactic(auto, unfolding(crate::specs::ScaledRules::raised_quotient_error))]
-pub(crate) fn raised_quotient_error(shift: u8, top: i128, err: i128, y: Bounds) -> i128
+pub(crate) fn quotient_error(shift: u8, top: i128, err: i128, y: Bounds) -> i128
     requires shift { shift ≤ 15 }
     requires top_low { pos 0 ≤ℤ top }
     requires top_high { top <ℤ pos (2 ^ 64) }
@@ -160,7 +147,7 @@ pub(crate) fn raised_quotient_error(shift: u8, top: i128, err: i128, y: Bounds) 
     requires high { err <ℤ pos (2 ^ 74) }
     requires divisor { IsSmall y }
     requires nonzero { may_be_zero y ≡ false }
-    ensures { result ≡ raised_quotient_error shift top err y }
+    ensures { result ≡ quotient_error shift top err y }
 {
     ceil_div(moves(top, err, y), raised_divisors(shift, y)) + ONE_COUNT
 }
@@ -172,11 +159,11 @@ fn moves(top: i128, err: i128, y: Bounds) -> i128
     requires low { pos 0 ≤ℤ err }
     requires high { err <ℤ pos (2 ^ 74) }
     requires divisor { IsSmall y }
-    ensures value { result ≡ pos 65536 *ℤ (top *ℤ y.err +ℤ least_reach y *ℤ err) }
+    ensures value { result ≡ one_count *ℤ cross_error top err y }
     ensures low { pos 0 ≤ℤ result }
     ensures high { result <ℤ pos (2 ^ 124) }
 {
-    let (least, y_err) = (least_reach(y), i128::from(y.err));
+    let (least, y_err) = (mignitude(y), i128::from(y.err));
     ONE_COUNT * (product(top, y_err) + product(err, least))
 }
 
@@ -184,11 +171,11 @@ fn moves(top: i128, err: i128, y: Bounds) -> i128
 fn divisors(y: Bounds) -> i128
     requires small { IsSmall y }
     requires nonzero { may_be_zero y ≡ false }
-    ensures value { result ≡ least_reach y *ℤ (pos 65536 *ℤ least_reach y -ℤ y.err) }
+    ensures value { result ≡ least_divisors y }
     ensures low { pos 1 ≤ℤ result }
     ensures high { result <ℤ pos (2 ^ 81) }
 {
-    let least = least_reach(y);
+    let least = mignitude(y);
     product(least, ONE_COUNT * least - i128::from(y.err))
 }
 
@@ -197,7 +184,7 @@ fn raised_divisors(shift: u8, y: Bounds) -> i128
     requires shift { shift ≤ 15 }
     requires small { IsSmall y }
     requires nonzero { may_be_zero y ≡ false }
-    ensures value { result ≡ least_reach y *ℤ (pos 65536 *ℤ least_reach y -ℤ y.err) *ℤ power shift }
+    ensures value { result ≡ least_divisors y *ℤ power shift }
     ensures low { pos 1 ≤ℤ result }
 {
     divisors(y) * power_of_two(shift)
@@ -209,11 +196,12 @@ fn shifted_quotient_error(shift: u8, x: Bounds, y: Bounds) -> i128
     requires dividend { IsSmall x }
     requires divisor { IsSmall y }
     requires nonzero { may_be_zero y ≡ false }
-    ensures { result ≡ quotient_error (reach x *ℤ power shift) (x.err *ℤ power shift) y }
+    ensures { result ≡ quotient_error 0 (magnitude x *ℤ power shift) (x.err *ℤ power shift) y }
 {
     let factor = power_of_two(shift);
     quotient_error(
-        product(reach(x), factor),
+        0,
+        product(magnitude(x), factor),
         product(i128::from(x.err), factor),
         y,
     )
@@ -225,9 +213,14 @@ fn product_quotient_error(x: Bounds, y: Bounds, z: Bounds) -> i128
     requires second { IsSmall y }
     requires divisor { IsSmall z }
     requires nonzero { may_be_zero z ≡ false }
-    ensures { result ≡ quotient_error (reach x *ℤ reach y) (product_error x y) z }
+    ensures { result ≡ quotient_error 0 (magnitude x *ℤ magnitude y) (product_error x y) z }
 {
-    quotient_error(product(reach(x), reach(y)), product_error(x, y), z)
+    quotient_error(
+        0,
+        product(magnitude(x), magnitude(y)),
+        product_error(x, y),
+        z,
+    )
 }
 
 // The product of a number of at most 78 bits and one of at most 48.

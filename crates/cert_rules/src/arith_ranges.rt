@@ -3,9 +3,10 @@
 
 ghost use Rattle.std.specs.Prelude.{◌≡◌, pos, ◌<◌, ◌≤◌, ◌^◌, ◌&&◌, if◌then◌else◌, int_le, unsigned_abs, IsTrue};
 ghost use Rattle.std.specs.Int.{int_max, int_min};
-ghost use Rattle.cert_rules.specs.ArithCorners.{HasDivisor, HasDivisorsAtEnds, greatest_at_corners, greatest_over_second, greatest_over_third, least_at_corners, least_over_second, least_over_third, three};
+ghost use Rattle.fx_core.specs.Arguments.{three};
+ghost use Rattle.mfx_arith.specs.Operations.{is_smooth_operation};
+ghost use Rattle.cert_rules.specs.ArithCorners.{HasDivisor, HasDivisorsAtEnds, greatest_at_corners, greatest_over_second, greatest_over_third, least_at_corners, least_over_second, least_over_third};
 ghost use Rattle.cert_rules.specs.ArithRules.{arith_values};
-ghost use Rattle.cert_rules.specs.ArithSoundness.{has_rule};
 ghost use Rattle.cert_rules.specs.Entries.{IsSmall};
 ghost use Rattle.cert_rules.specs.Ranges.{greatest_among, least_among};
 
@@ -60,7 +61,7 @@ impl Range {
 
 // The values over the ends of the third argument's range.
 fn over_third(op: ArithOp, shift: u8, x: Whole, y: Whole, z: Bounds) -> Range
-    requires rule { IsTrue (has_rule op) }
+    requires rule { IsTrue (is_smooth_operation op) }
     requires shift { shift ≤ 15 }
     requires first { unsigned_abs x.number < 2 ^ 32 }
     requires second { unsigned_abs y.number < 2 ^ 32 }
@@ -76,7 +77,7 @@ fn over_third(op: ArithOp, shift: u8, x: Whole, y: Whole, z: Bounds) -> Range
 
 // The values over the ends of the second and of the third argument's range.
 fn over_second(op: ArithOp, shift: u8, x: Whole, y: Bounds, z: Bounds) -> Range
-    requires rule { IsTrue (has_rule op) }
+    requires rule { IsTrue (is_smooth_operation op) }
     requires shift { shift ≤ 15 }
     requires first { unsigned_abs x.number < 2 ^ 32 }
     requires second { IsSmall y }
@@ -90,7 +91,7 @@ fn over_second(op: ArithOp, shift: u8, x: Whole, y: Bounds, z: Bounds) -> Range
 
 // The values at all corners.
 fn at_corners(op: ArithOp, shift: u8, x: Bounds, y: Bounds, z: Bounds) -> Range
-    requires rule { IsTrue (has_rule op) }
+    requires rule { IsTrue (is_smooth_operation op) }
     requires shift { shift ≤ 15 }
     requires first { IsSmall x }
     requires second { IsSmall y }
@@ -104,7 +105,7 @@ fn at_corners(op: ArithOp, shift: u8, x: Bounds, y: Bounds, z: Bounds) -> Range
 
 /// The range of an operation's value.
 pub(crate) fn range_of(op: ArithOp, shift: u8, x: Bounds, y: Bounds, z: Bounds) -> Range
-    requires rule { IsTrue (has_rule op) }
+    requires rule { IsTrue (is_smooth_operation op) }
     requires shift { shift ≤ 15 }
     requires first { IsSmall x }
     requires second { IsSmall y }

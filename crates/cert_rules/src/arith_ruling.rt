@@ -1,9 +1,10 @@
 // The rule of each operation of arithmetic: its bounds, from those of its arguments.
 
 ghost use Rattle.std.specs.Prelude.{◌≡◌, ◌≤◌, None, Some, IsTrue, if◌then◌else◌, option_map};
-ghost use Rattle.cert_rules.specs.ArithCorners.{HasDivisorsAtEnds, three};
+ghost use Rattle.fx_core.specs.Arguments.{three};
+ghost use Rattle.mfx_arith.specs.Operations.{is_smooth_operation};
+ghost use Rattle.cert_rules.specs.ArithCorners.{HasDivisorsAtEnds};
 ghost use Rattle.cert_rules.specs.ArithRules.{arith_bounds, arith_may_divide_by_zero};
-ghost use Rattle.cert_rules.specs.ArithSoundness.{has_rule};
 ghost use Rattle.cert_rules.specs.ArithWide.{exact_bounds};
 ghost use Rattle.cert_rules.specs.Entries.{IsSmall};
 
@@ -30,7 +31,7 @@ pub(crate) fn arith_bounds(
     y: Bounds,
     z: Bounds,
 ) -> Option<WideBounds>
-    requires rule { IsTrue (has_rule op) }
+    requires rule { IsTrue (is_smooth_operation op) }
     requires shift { shift ≤ 15 }
     requires first { IsSmall x }
     requires second { IsSmall y }

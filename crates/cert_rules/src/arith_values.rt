@@ -2,15 +2,15 @@
 // saturated.
 
 ghost use Rattle.std.specs.Prelude.{◌≡◌, ◌<◌, ◌≤◌, ◌^◌, unsigned_abs, IsTrue};
+ghost use Rattle.mfx_arith.specs.Operations.{is_smooth_operation};
 ghost use Rattle.cert_rules.specs.ArithCorners.{HasDivisor, corner_value};
-ghost use Rattle.cert_rules.specs.ArithSoundness.{has_rule};
 
 use crate::whole_numbers::Whole;
 use mfx_arith::ArithOp;
 
 /// The value of an operation at the numbers of its arguments. What it doesn't have isn't looked at.
 pub(crate) fn value_at(op: ArithOp, shift: u8, x: Whole, y: Whole, z: Whole) -> Whole
-    requires rule { IsTrue (has_rule op) }
+    requires rule { IsTrue (is_smooth_operation op) }
     requires shift { shift ≤ 15 }
     requires first { unsigned_abs x.number < 2 ^ 32 }
     requires second { unsigned_abs y.number < 2 ^ 32 }

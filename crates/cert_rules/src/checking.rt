@@ -2,36 +2,35 @@
 
 ghost use Rattle.std.specs.Prelude.{◌≡◌, ◌<◌, ◌&&◌, None, int_le, length, option_map, pos};
 ghost use Rattle.net_model.specs.Wires.{parts_of};
-ghost use Rattle.cert_rules.specs.Acceptance.{first_failing, first_rejected, is_inductive_at, is_sound_at};
-ghost use Rattle.cert_rules.specs.Entries.{AreSound};
+ghost use Rattle.cert_rules.specs.Acceptance.{AreAllowed, first_failing, first_rejected, is_inductive_at, is_allowed_at};
 
 use crate::bounds::Bounds;
 use crate::limits::allowed;
 use crate::ruling::rule;
 use net_model::{Network, PartNo};
 
-/// The first part that a certificate with an entry for each part fails: the first whose entry isn't sound;
-/// where all are sound, the first whose entry is narrower than its rule gives. None where it is accepted.
+/// The first part that a certificate with an entry for each part fails: the first whose entry isn't allowed;
+/// where all are allowed, the first whose entry is narrower than its rule gives. None where it is accepted.
 pub fn rejected_part(net: &Network, entries: &[Bounds]) -> Option<PartNo>
     requires { length entries.now ≡ length (parts_of net.now.wires) }
     ensures { option_map (λ p. p.0) result ≡ first_rejected net.now.wires entries.now }
 {
-    match first_unsound(net, entries) {
+    match first_disallowed(net, entries) {
         Some(part) => Some(part),
         None => first_narrow(net, entries),
     }
 }
 
-/// The first part whose entry isn't sound: it isn't allowed, its range is empty or its error negative. None where
-/// all are sound, as `rule` wants them.
-pub fn first_unsound(net: &Network, entries: &[Bounds]) -> Option<PartNo>
+/// The first part whose entry isn't allowed: its bounds aren't allowed for the part, its range is empty or its
+/// error is negative. None where all are allowed, as `rule` wants them.
+pub fn first_disallowed(net: &Network, entries: &[Bounds]) -> Option<PartNo>
     requires { length entries.now ≡ length (parts_of net.now.wires) }
-    ensures sound { result ≡ None → AreSound net.now.wires entries.now }
+    ensures allowed { result ≡ None → AreAllowed net.now.wires entries.now }
     ensures first { option_map (λ p. p.0) result
-        ≡ first_failing (is_sound_at net.now.wires entries.now) 0 (length (parts_of net.now.wires)) }
+        ≡ first_failing (is_allowed_at net.now.wires entries.now) 0 (length (parts_of net.now.wires)) }
 {
     for k in 0..part_count(net) {
-        if !is_sound(net, PartNo(k), entries) {
+        if !is_allowed_at(net, PartNo(k), entries) {
             return Some(PartNo(k));
         }
     }
@@ -40,7 +39,7 @@ pub fn first_unsound(net: &Network, entries: &[Bounds]) -> Option<PartNo>
 
 fn first_narrow(net: &Network, entries: &[Bounds]) -> Option<PartNo>
     requires complete { length entries.now ≡ length (parts_of net.now.wires) }
-    requires sound { AreSound net.now.wires entries.now }
+    requires allowed { AreAllowed net.now.wires entries.now }
     ensures { option_map (λ p. p.0) result
         ≡ first_failing (is_inductive_at net.now.wires entries.now) 0 (length (parts_of net.now.wires)) }
 {
@@ -59,11 +58,11 @@ fn part_count(net: &Network) -> u32
     net.parts().len() as u32
 }
 
-/// Whether a part's entry is allowed, its range isn't empty and its error isn't negative.
-fn is_sound(net: &Network, part: PartNo, entries: &[Bounds]) -> bool
+/// Whether a part's entry is allowed: its bounds are, its range isn't empty and its error isn't negative.
+fn is_allowed_at(net: &Network, part: PartNo, entries: &[Bounds]) -> bool
     requires there { part.0 < length (parts_of net.now.wires) }
     requires complete { length entries.now ≡ length (parts_of net.now.wires) }
-    ensures { result ≡ is_sound_at net.now.wires entries.now part.0 }
+    ensures { result ≡ is_allowed_at net.now.wires entries.now part.0 }
 {
     let entry = entries[part.0 as usize];
     allowed(net, part, entry) && is_proper(entry)
@@ -81,7 +80,7 @@ fn is_proper(b: Bounds) -> bool
 fn is_inductive(net: &Network, part: PartNo, entries: &[Bounds]) -> bool
     requires there { part.0 < length (parts_of net.now.wires) }
     requires complete { length entries.now ≡ length (parts_of net.now.wires) }
-    requires sound { AreSound net.now.wires entries.now }
+    requires allowed { AreAllowed net.now.wires entries.now }
     ensures { result ≡ is_inductive_at net.now.wires entries.now part.0 }
 {
     let entry = entries[part.0 as usize];

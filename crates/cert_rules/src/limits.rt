@@ -12,8 +12,8 @@ use net_model::{Kind, Network, PartNo, Role};
 /// What the error of a wire's value has to be below, in units of 1/65536 of a raw count.
 const ERROR_CAP: i64 = 1 << 40;
 
-/// Whether bounds are allowed for a part: the range lies between the ends of the part, and the error is
-/// below its cap.
+/// Whether bounds are allowed for a part: both ends of the range lie between the ends of the part, and the
+/// error is below its cap.
 pub fn allowed(net: &Network, part: PartNo, b: Bounds) -> bool
     requires { part.0 < length (parts_of net.now.wires) }
     ensures { let p = part_at net.now.wires part.0 in
@@ -33,9 +33,23 @@ pub(crate) fn is_within_limits(kind: Kind, role: Role, b: Bounds) -> bool
 }
 
 fn is_inside(least: i64, greatest: i64, cap: i64, b: Bounds) -> bool
-    ensures { result ≡ (int_le least b.lo && int_le b.hi greatest && int_lt b.err cap) }
+    ensures { result
+        ≡ ((int_le least b.lo && int_le b.lo greatest) && (int_le least b.hi && int_le b.hi greatest) && int_lt b.err cap) }
 {
-    least <= b.lo && b.hi <= greatest && b.err < cap
+    are_between(least, greatest, b.lo, b.hi) && b.err < cap
+}
+
+fn are_between(least: i64, greatest: i64, first: i64, second: i64) -> bool
+    ensures { result
+        ≡ ((int_le least first && int_le first greatest) && (int_le least second && int_le second greatest)) }
+{
+    is_between(least, greatest, first) && is_between(least, greatest, second)
+}
+
+fn is_between(least: i64, greatest: i64, number: i64) -> bool
+    ensures { result ≡ (int_le least number && int_le number greatest) }
+{
+    least <= number && number <= greatest
 }
 
 fn least(kind: Kind) -> i64

@@ -1,12 +1,12 @@
 // The bounds of an operation of arithmetic, and of a form with binary points, as bounds of a part.
 
 ghost use Rattle.std.specs.Prelude.{◌≡◌, ◌≤◌, IsTrue, None, if◌then◌else◌};
-ghost use Rattle.cert_rules.specs.ArithCorners.{three};
+ghost use Rattle.fx_core.specs.Arguments.{three, two};
+ghost use Rattle.mfx_arith.specs.Operations.{is_smooth_operation};
 ghost use Rattle.cert_rules.specs.ArithRules.{arith_bounds, arith_may_divide_by_zero};
-ghost use Rattle.cert_rules.specs.ArithSoundness.{has_rule};
 ghost use Rattle.cert_rules.specs.ArithWide.{exact_bounds};
 ghost use Rattle.cert_rules.specs.Entries.{IsSmall, if_small};
-ghost use Rattle.cert_rules.specs.ScaledCorners.{AreLow, two};
+ghost use Rattle.cert_rules.specs.ScaledCorners.{AreLow};
 ghost use Rattle.cert_rules.specs.ScaledRules.{scaled_bounds, scaled_may_divide_by_zero};
 
 use crate::arith_ruling::{WideBounds, arith_bounds};
@@ -30,7 +30,7 @@ pub(crate) fn operation_bounds(
     y: Bounds,
     z: Bounds,
 ) -> Option<Bounds>
-    requires rule { IsTrue (has_rule op) }
+    requires rule { IsTrue (is_smooth_operation op) }
     requires shift { shift ≤ 15 }
     requires first { IsSmall x }
     requires second { IsSmall y }

@@ -5,8 +5,7 @@ ghost use Rattle.net_model.specs.Wires.{parts_of, wire_at};
 ghost use Rattle.net_model.specs.Validity.{IsValid};
 ghost use Rattle.cert_rules.specs.Certificates.{entry_of};
 ghost use Rattle.cert_rules.specs.Rules.{allowed_of, bounds_of, rule_of};
-ghost use Rattle.cert_rules.specs.Acceptance.{part_at};
-ghost use Rattle.cert_rules.specs.Entries.{AreSound};
+ghost use Rattle.cert_rules.specs.Acceptance.{AreAllowed, part_at};
 
 use crate::bounds::Bounds;
 use crate::limits::is_within_limits;
@@ -20,7 +19,7 @@ use net_model::{Block, Item, Network, PartNo, Role, WireNo};
 pub fn rule(net: &Network, part: PartNo, all: &[Bounds]) -> Option<Bounds>
     requires there { part.0 < length (parts_of net.now.wires) }
     requires complete { length all.now ≡ length (parts_of net.now.wires) }
-    requires sound { AreSound net.now.wires all.now }
+    requires allowed { AreAllowed net.now.wires all.now }
     ensures { let p = part_at net.now.wires part.0 in
         result ≡ rule_of net.now.wires p.wire.0 p.role (entry_of net.now.wires all.now) }
 {
@@ -35,7 +34,7 @@ fn value_rule(net: &Network, wire: WireNo, all: &[Bounds]) -> Option<Bounds>
     requires valid { IsValid net.now }
     requires there { wire.0 < length net.now.wires }
     requires complete { length all.now ≡ length (parts_of net.now.wires) }
-    requires sound { AreSound net.now.wires all.now }
+    requires allowed { AreAllowed net.now.wires all.now }
     ensures { result ≡ rule_of net.now.wires wire.0 Role.Value (entry_of net.now.wires all.now) }
 {
     let b = item_bounds(net, wire, all)?;
@@ -52,7 +51,7 @@ fn item_bounds(net: &Network, wire: WireNo, all: &[Bounds]) -> Option<Bounds>
     requires valid { IsValid net.now }
     requires there { wire.0 < length net.now.wires }
     requires complete { length all.now ≡ length (parts_of net.now.wires) }
-    requires sound { AreSound net.now.wires all.now }
+    requires allowed { AreAllowed net.now.wires all.now }
     ensures { let w = wire_at net.now.wires wire.0 in
         allowed_of w.kind Role.Value result
         ≡ allowed_of w.kind Role.Value (bounds_of net.now.wires w.kind w.item (λ k. entry_of net.now.wires all.now k Role.Value)) }
@@ -74,7 +73,7 @@ fn block_bounds(net: &Network, wire: WireNo, block: Block, all: &[Bounds]) -> Op
     requires there { wire.0 < length net.now.wires }
     requires block { (wire_at net.now.wires wire.0).item ≡ Item.Block block }
     requires complete { length all.now ≡ length (parts_of net.now.wires) }
-    requires sound { AreSound net.now.wires all.now }
+    requires allowed { AreAllowed net.now.wires all.now }
     ensures { let kind = (wire_at net.now.wires wire.0).kind in
         allowed_of kind Role.Value result
         ≡ allowed_of kind Role.Value (bounds_of net.now.wires kind (Item.Block block) (λ k. entry_of net.now.wires all.now k Role.Value)) }

@@ -2,12 +2,13 @@
 
 ghost use Rattle.std.specs.Prelude.{◌≡◌, pos, ◌+◌, ◌-◌, ◌<◌, ◌≤◌, ◌≤ℤ◌, ◌<ℤ◌, ◌*ℤ◌, ◌^◌, false};
 ghost use Rattle.fx_core.specs.Rounding.{power};
-ghost use Rattle.cert_rules.specs.ArithRules.{may_be_zero, product_error, reach};
+ghost use Rattle.fx_core.specs.Arguments.{two};
+ghost use Rattle.cert_rules.specs.ArithRules.{may_be_zero, product_error, magnitude, quotient_error};
 ghost use Rattle.cert_rules.specs.Entries.{IsSmall};
-ghost use Rattle.cert_rules.specs.ScaledCorners.{AreLow, two};
-ghost use Rattle.cert_rules.specs.ScaledRules.{converted_error, raised_quotient_error, scaled_error, scaled_may_divide_by_zero, sum_error};
+ghost use Rattle.cert_rules.specs.ScaledCorners.{AreLow};
+ghost use Rattle.cert_rules.specs.ScaledRules.{converted_error, scaled_error, scaled_may_divide_by_zero, sum_error};
 
-use crate::arith_errors::{product_error, raised_quotient_error, reach, shifted_error};
+use crate::arith_errors::{magnitude, product_error, quotient_error, shifted_error};
 use crate::bounds::Bounds;
 use crate::scaled_counts::{Count, exact, highest};
 use mfx_scaled::{Points, ScaledOp};
@@ -24,7 +25,7 @@ pub(crate) fn error_of(op: ScaledOp, p: Points, x: Bounds, y: Bounds) -> i128
         ScaledOp::Convert => converted_error(exact(x.err, p.a), p.c),
         ScaledOp::Add | ScaledOp::Sub | ScaledOp::AbsDiff => sum_error(p, x, y),
         ScaledOp::Mul => converted_error(product_at(p, x, y), p.c),
-        ScaledOp::Div => quotient_error(p, x, y),
+        ScaledOp::Div => quotient_at(p, x, y),
     }
 }
 
@@ -70,20 +71,20 @@ fn sum_error(p: Points, x: Bounds, y: Bounds) -> i128
 }
 
 // The error of a quotient: the dividend is raised or the divisor is, to the higher of their points.
-fn quotient_error(p: Points, x: Bounds, y: Bounds) -> i128
+fn quotient_at(p: Points, x: Bounds, y: Bounds) -> i128
     requires points { AreLow p }
     requires dividend { IsSmall x }
     requires divisor { IsSmall y }
     requires nonzero { may_be_zero y ≡ false }
-    ensures { result ≡ raised_quotient_error (p.a - (p.c + p.b)) (reach x *ℤ power (p.c + p.b - p.a)) (x.err *ℤ power (p.c + p.b - p.a)) y }
+    ensures { result ≡ quotient_error (p.a - (p.c + p.b)) (magnitude x *ℤ power (p.c + p.b - p.a)) (x.err *ℤ power (p.c + p.b - p.a)) y }
 {
     let divisor_point = p.c + p.b;
     let high = p.a.max(divisor_point);
     let top = Count {
-        number: reach(x),
+        number: magnitude(x),
         point: p.a,
     };
-    raised_quotient_error(
+    quotient_error(
         high - divisor_point,
         top.raised(high).number,
         exact(x.err, p.a).raised(high).number,

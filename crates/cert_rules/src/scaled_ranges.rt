@@ -2,9 +2,10 @@
 // ranges.
 
 ghost use Rattle.std.specs.Prelude.{◌≡◌, ◌<◌, ◌≤◌, ◌^◌, unsigned_abs};
+ghost use Rattle.fx_core.specs.Arguments.{two};
 ghost use Rattle.cert_rules.specs.Entries.{IsSmall};
 ghost use Rattle.cert_rules.specs.Ranges.{greatest_among, least_among};
-ghost use Rattle.cert_rules.specs.ScaledCorners.{AreLow, FormHasDivisor, FormHasDivisorsAtEnds, form_greatest_at_corners, form_greatest_over_second, form_least_at_corners, form_least_over_second, two};
+ghost use Rattle.cert_rules.specs.ScaledCorners.{AreLow, FormHasDivisor, FormHasDivisorsAtEnds, form_greatest_at_corners, form_greatest_over_second, form_least_at_corners, form_least_over_second};
 ghost use Rattle.cert_rules.specs.ScaledRules.{level_points, scaled_values};
 
 use crate::arith_ranges::{Range, high_end, low_end};

@@ -1,9 +1,10 @@
 // The rule of each form with binary points: its bounds, from those of its arguments.
 
 ghost use Rattle.std.specs.Prelude.{◌≡◌, None, Some, if◌then◌else◌, option_map};
+ghost use Rattle.fx_core.specs.Arguments.{two};
 ghost use Rattle.cert_rules.specs.ArithWide.{exact_bounds};
 ghost use Rattle.cert_rules.specs.Entries.{IsSmall};
-ghost use Rattle.cert_rules.specs.ScaledCorners.{AreLow, two};
+ghost use Rattle.cert_rules.specs.ScaledCorners.{AreLow};
 ghost use Rattle.cert_rules.specs.ScaledRules.{scaled_bounds, scaled_may_divide_by_zero};
 
 use crate::arith_errors::may_be_zero;

@@ -3,7 +3,7 @@
 ghost use Rattle.std.specs.Prelude.{◌<◌, ◌^◌, length};
 
 use crate::networks::network;
-use cert_rules::{BadBounds, Bounds, Certificate, argument, first_unsound, rule};
+use cert_rules::{BadBounds, Bounds, Certificate, allowed, argument, first_disallowed, rule};
 use net_model::{Network, PartNo};
 use std::alloc::{AllocError, Global};
 use std::test::Fail;
@@ -50,13 +50,16 @@ fn entries(alloc: Global, numbers: &[Numbers]) -> Result<Vec<Bounds>, AllocError
     Ok(entries)
 }
 
-// What a part's rule gives, where there is an entry for each part and all are sound.
+// What a part's rule gives, where there is an entry for each part and all are allowed.
 fn rule_over(net: &Network, entries: &[Bounds], part: u32) -> Result<Option<Bounds>, Fail> {
     let parts = net.parts().len();
-    if entries.len() == parts && (part as usize) < parts && first_unsound(net, entries).is_none() {
+    if entries.len() == parts
+        && (part as usize) < parts
+        && first_disallowed(net, entries).is_none()
+    {
         Ok(rule(net, PartNo(part), entries))
     } else {
-        Err("an entry is missing or not sound")?
+        Err("an entry is missing or not allowed")?
     }
 }
 
@@ -79,6 +82,36 @@ fn rules_give_exact_bounds(rt: HostRuntime) -> Result<(), Fail> {
         assert_eq!(rt; given, Some(bounds(ENTRIES[part as usize])));
     }
     assert_eq!(rt; ruled(rt.alloc(), UNRULED, &UNRULED_ENTRIES, 3)?, None);
+    Ok(())
+}
+
+fn allows_of(net: &Network, part: u32, numbers: Numbers) -> Result<bool, Fail> {
+    if (part as usize) < net.parts().len() {
+        Ok(allowed(net, PartNo(part), bounds(numbers)))
+    } else {
+        Err("no such part")?
+    }
+}
+
+// Whether bounds are allowed for the one wire of a network of a byte.
+fn allows(alloc: Global, numbers: Numbers) -> Result<bool, Fail> {
+    let net = network(alloc, b"net 1\nin x u8 0 9\nout x\n")?;
+    allows_of(&net, 0, numbers)
+}
+
+#[test]
+fn both_ends_lie_in_the_type(rt: HostRuntime) -> Result<(), Fail> {
+    let cap = 1 << 40;
+    for (numbers, wanted) in [
+        ((0, 255, cap - 1), true),
+        ((300, 5, 0), false),
+        ((5, -1, 0), false),
+        ((-1, 5, 0), false),
+        ((5, 256, 0), false),
+        ((0, 255, cap), false),
+    ] {
+        assert_eq!(rt; allows(rt.alloc(), numbers)?, wanted);
+    }
     Ok(())
 }
 

@@ -5,9 +5,9 @@ use Rattle.cert_rules.proofs.ArithSizes.{DivisorWords, divisor_high, divisor_wor
 use Rattle.cert_rules.proofs.WordSteps.{is_error}
 use Rattle.cert_rules.proofs.arith_errors.divisors.Goals as goal
 
-words : (c : goal.After-from) → DivisorWords c.args.y c.least_reach-least.result c.from.result
+words : (c : goal.After-from) → DivisorWords c.args.y c.mignitude-least.result c.from.result
 words c =
-    divisor_words c.args.y c.least_reach-least.result c.from.result c.requires.small c.requires.nonzero c.least_reach-least.ensures.low c.least_reach-least.ensures.high c.least_reach-least.ensures.value (is_error c.args.y c.from.result c.requires.small c.from.ensures).value
+    divisor_words c.args.y c.mignitude-least.result c.from.result c.requires.small c.requires.nonzero c.mignitude-least.ensures.low c.mignitude-least.ensures.high c.mignitude-least.ensures.value (is_error c.args.y c.from.result c.requires.small c.from.ensures).value
 
 pub product-requires-clause-second_low : goal.product-requires-clause-second_low
 product-requires-clause-second_low c =
@@ -17,15 +17,15 @@ product-requires-clause-second_low c =
 
 pub returns-clause-value : goal.returns-clause-value
 returns-clause-value c =
-    let w : DivisorWords c.args.y c.least_reach-least.result c.from.result = divisor_words c.args.y c.least_reach-least.result c.from.result c.requires.small c.requires.nonzero c.least_reach-least.ensures.low c.least_reach-least.ensures.high c.least_reach-least.ensures.value (is_error c.args.y c.from.result c.requires.small c.from.ensures).value in
+    let w : DivisorWords c.args.y c.mignitude-least.result c.from.result = divisor_words c.args.y c.mignitude-least.result c.from.result c.requires.small c.requires.nonzero c.mignitude-least.ensures.low c.mignitude-least.ensures.high c.mignitude-least.ensures.value (is_error c.args.y c.from.result c.requires.small c.from.ensures).value in
     to_z-of_z w128 c.product.result (record { sfits = c.product.type_inv }) ∙ c.product.ensures.value ∙ ap₂ (λ s t. s *ℤ t) w.plain w.left
 
 pub returns-clause-low : goal.returns-clause-low
 returns-clause-low c =
-    let w : DivisorWords c.args.y c.least_reach-least.result c.from.result = divisor_words c.args.y c.least_reach-least.result c.from.result c.requires.small c.requires.nonzero c.least_reach-least.ensures.low c.least_reach-least.ensures.high c.least_reach-least.ensures.value (is_error c.args.y c.from.result c.requires.small c.from.ensures).value in
+    let w : DivisorWords c.args.y c.mignitude-least.result c.from.result = divisor_words c.args.y c.mignitude-least.result c.from.result c.requires.small c.requires.nonzero c.mignitude-least.ensures.low c.mignitude-least.ensures.high c.mignitude-least.ensures.value (is_error c.args.y c.from.result c.requires.small c.from.ensures).value in
     rw (returns-clause-value c) (product_some _ _ w.some w.low)
 
 pub returns-clause-high : goal.returns-clause-high
 returns-clause-high c =
-    let w : DivisorWords c.args.y c.least_reach-least.result c.from.result = divisor_words c.args.y c.least_reach-least.result c.from.result c.requires.small c.requires.nonzero c.least_reach-least.ensures.low c.least_reach-least.ensures.high c.least_reach-least.ensures.value (is_error c.args.y c.from.result c.requires.small c.from.ensures).value in
-    divisor_high c.args.y c.least_reach-least.result c.from.result c.product.result w c.least_reach-least.ensures.high c.least_reach-least.ensures.value c.requires.small.positive c.product.ensures.size (record { sfits = c.product.type_inv })
+    let w : DivisorWords c.args.y c.mignitude-least.result c.from.result = divisor_words c.args.y c.mignitude-least.result c.from.result c.requires.small c.requires.nonzero c.mignitude-least.ensures.low c.mignitude-least.ensures.high c.mignitude-least.ensures.value (is_error c.args.y c.from.result c.requires.small c.from.ensures).value in
+    divisor_high c.args.y c.mignitude-least.result c.from.result c.product.result w c.mignitude-least.ensures.high c.mignitude-least.ensures.value c.requires.small.positive c.product.ensures.size (record { sfits = c.product.type_inv })

@@ -2,16 +2,16 @@ use Rattle.std.proofs.Common.{◌∙◌, ap, ap₂, inl, inr}
 use Rattle.std.specs.Int.{int_max, w128}
 use Rattle.std.proofs.lemmas.Int.{to_z-of_z}
 use Rattle.cert_rules.specs.ArithRules.{quotient_error, shifted_error}
-use Rattle.cert_rules.proofs.WordSteps.{error_factor, is_error, reach_factor, word_high, word_low}
+use Rattle.cert_rules.proofs.WordSteps.{error_factor, is_error, magnitude_factor, word_high, word_low}
 use Rattle.cert_rules.proofs.arith_errors.error_of.Goals as goal
 
 pub quotient_error-requires-clause-top_low : goal.quotient_error-requires-clause-top_low
 quotient_error-requires-clause-top_low c =
-    (reach_factor c.reach.result c.reach.ensures.low c.reach.ensures.high).low
+    (magnitude_factor c.magnitude.result c.magnitude.ensures.low c.magnitude.ensures.high).low
 
 pub quotient_error-requires-clause-top_high : goal.quotient_error-requires-clause-top_high
 quotient_error-requires-clause-top_high c =
-    (reach_factor c.reach.result c.reach.ensures.low c.reach.ensures.high).top
+    (magnitude_factor c.magnitude.result c.magnitude.ensures.low c.magnitude.ensures.high).top
 
 pub quotient_error-requires-clause-low : goal.quotient_error-requires-clause-low
 quotient_error-requires-clause-low c =
@@ -39,7 +39,7 @@ returns-in-Mul c =
 
 pub returns-in-Div : goal.returns-in-Div
 returns-in-Div c =
-    rw c.in-Div.is (to_z-of_z w128 c.quotient_error.result (record { sfits = c.quotient_error.type_inv }) ∙ c.quotient_error.ensures ∙ ap₂ (λ s t. quotient_error s t c.args.y) (to_z-of_z w128 c.reach.result (record { sfits = c.reach.type_inv }) ∙ c.reach.ensures.value) (is_error c.args.x c.from-in-Div.result c.requires.first c.from-in-Div.ensures).plain)
+    rw c.in-Div.is (to_z-of_z w128 c.quotient_error.result (record { sfits = c.quotient_error.type_inv }) ∙ c.quotient_error.ensures ∙ ap₂ (λ s t. quotient_error 0 s t c.args.y) (to_z-of_z w128 c.magnitude.result (record { sfits = c.magnitude.type_inv }) ∙ c.magnitude.ensures.value) (is_error c.args.x c.from-in-Div.result c.requires.first c.from-in-Div.ensures).plain)
 
 pub returns-in-MulDiv : goal.returns-in-MulDiv
 returns-in-MulDiv c =

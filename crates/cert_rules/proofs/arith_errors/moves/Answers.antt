@@ -1,11 +1,11 @@
 use Rattle.std.proofs.Common.{◌∙◌, ap, pos, ◌*ℤ◌}
 use Rattle.cert_rules.proofs.ArithSizes.{DividendWords, dividend_words, dividend_fits, dividend_times_fits, dividend_times_word, dividend_low, dividend_high}
-use Rattle.cert_rules.proofs.WordSteps.{error_factor, is_error, reach_factor}
+use Rattle.cert_rules.proofs.WordSteps.{error_factor, is_error, magnitude_factor}
 use Rattle.cert_rules.proofs.arith_errors.moves.Goals as goal
 
 words : (c : goal.After-product-2) → DividendWords c.args.top c.args.err c.args.y c.product.result c.product-2.result
 words c =
-    dividend_words c.args.top c.args.err c.args.y c.least_reach-least.result c.from-y_err.result c.product.result c.product-2.result c.requires.divisor c.requires.top_low c.requires.top_high c.requires.low c.requires.high c.least_reach-least.ensures.low c.least_reach-least.ensures.high c.least_reach-least.ensures.value (is_error c.args.y c.from-y_err.result c.requires.divisor c.from-y_err.ensures).value c.product.ensures.value c.product-2.ensures.value
+    dividend_words c.args.top c.args.err c.args.y c.mignitude-least.result c.from-y_err.result c.product.result c.product-2.result c.requires.divisor c.requires.top_low c.requires.top_high c.requires.low c.requires.high c.mignitude-least.ensures.low c.mignitude-least.ensures.high c.mignitude-least.ensures.value (is_error c.args.y c.from-y_err.result c.requires.divisor c.from-y_err.ensures).value c.product.ensures.value c.product-2.ensures.value
 
 pub product-requires-clause-second_low : goal.product-requires-clause-second_low
 product-requires-clause-second_low c =
@@ -17,11 +17,11 @@ product-requires-clause-second_high c =
 
 pub product-requires-2-clause-second_low : goal.product-requires-2-clause-second_low
 product-requires-2-clause-second_low c =
-    (reach_factor c.least_reach-least.result c.least_reach-least.ensures.low c.least_reach-least.ensures.high).low
+    (magnitude_factor c.mignitude-least.result c.mignitude-least.ensures.low c.mignitude-least.ensures.high).low
 
 pub product-requires-2-clause-second_high : goal.product-requires-2-clause-second_high
 product-requires-2-clause-second_high c =
-    (reach_factor c.least_reach-least.result c.least_reach-least.ensures.low c.least_reach-least.ensures.high).narrow
+    (magnitude_factor c.mignitude-least.result c.mignitude-least.ensures.low c.mignitude-least.ensures.high).narrow
 
 pub overflow_add-result : goal.overflow_add-result
 overflow_add-result c = dividend_fits _ _ (words c)

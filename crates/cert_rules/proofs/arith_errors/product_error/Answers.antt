@@ -2,16 +2,16 @@ use Rattle.std.proofs.Common.{◌∙◌, refl, pos}
 use Rattle.fx_core.specs.Rounding.{least_quotient_above}
 use Rattle.cert_rules.proofs.ArithCornerValues.{word}
 use Rattle.cert_rules.proofs.ArithSizes.{ProductWords, product_words, pair_fits, sum_fits, sum_word, sum_low, sum_high}
-use Rattle.cert_rules.proofs.WordSteps.{error_factor, is_error, reach_factor, word_low}
+use Rattle.cert_rules.proofs.WordSteps.{error_factor, is_error, magnitude_factor, word_low}
 use Rattle.cert_rules.proofs.arith_errors.product_error.Goals as goal
 
 pub product-first-requires-clause-first_low : goal.product-first-requires-clause-first_low
 product-first-requires-clause-first_low c =
-    (reach_factor c.reach.result c.reach.ensures.low c.reach.ensures.high).low
+    (magnitude_factor c.magnitude.result c.magnitude.ensures.low c.magnitude.ensures.high).low
 
 pub product-first-requires-clause-first_high : goal.product-first-requires-clause-first_high
 product-first-requires-clause-first_high c =
-    (reach_factor c.reach.result c.reach.ensures.low c.reach.ensures.high).wide
+    (magnitude_factor c.magnitude.result c.magnitude.ensures.low c.magnitude.ensures.high).wide
 
 pub product-first-requires-clause-second_low : goal.product-first-requires-clause-second_low
 product-first-requires-clause-second_low c =
@@ -23,11 +23,11 @@ product-first-requires-clause-second_high c =
 
 pub product-second-requires-clause-first_low : goal.product-second-requires-clause-first_low
 product-second-requires-clause-first_low c =
-    (reach_factor c.reach-2.result c.reach-2.ensures.low c.reach-2.ensures.high).low
+    (magnitude_factor c.magnitude-2.result c.magnitude-2.ensures.low c.magnitude-2.ensures.high).low
 
 pub product-second-requires-clause-first_high : goal.product-second-requires-clause-first_high
 product-second-requires-clause-first_high c =
-    (reach_factor c.reach-2.result c.reach-2.ensures.low c.reach-2.ensures.high).wide
+    (magnitude_factor c.magnitude-2.result c.magnitude-2.ensures.low c.magnitude-2.ensures.high).wide
 
 pub product-second-requires-clause-second_low : goal.product-second-requires-clause-second_low
 product-second-requires-clause-second_low c =
@@ -59,25 +59,25 @@ ceil_div-requires-clause-dividend c =
 
 pub overflow_add-result : goal.overflow_add-result
 overflow_add-result c =
-    let w : ProductWords c.args.x c.args.y c.product-first.result c.product-second.result (least_quotient_above (word c.product-both.result) (pos 65536)) = product_words c.args.x c.args.y c.reach.result c.reach-2.result c.from-x_err.result c.from-y_err.result c.product-first.result c.product-second.result c.product-both.result (least_quotient_above (word c.product-both.result) (pos 65536)) c.requires.first c.requires.second c.reach.ensures.low c.reach.ensures.high c.reach-2.ensures.low c.reach-2.ensures.high c.reach.ensures.value c.reach-2.ensures.value (is_error c.args.x c.from-x_err.result c.requires.first c.from-x_err.ensures).value (is_error c.args.y c.from-y_err.result c.requires.second c.from-y_err.ensures).value c.product-first.ensures.value c.product-second.ensures.value c.product-both.ensures.value refl in
+    let w : ProductWords c.args.x c.args.y c.product-first.result c.product-second.result (least_quotient_above (word c.product-both.result) (pos 65536)) = product_words c.args.x c.args.y c.magnitude.result c.magnitude-2.result c.from-x_err.result c.from-y_err.result c.product-first.result c.product-second.result c.product-both.result (least_quotient_above (word c.product-both.result) (pos 65536)) c.requires.first c.requires.second c.magnitude.ensures.low c.magnitude.ensures.high c.magnitude-2.ensures.low c.magnitude-2.ensures.high c.magnitude.ensures.value c.magnitude-2.ensures.value (is_error c.args.x c.from-x_err.result c.requires.first c.from-x_err.ensures).value (is_error c.args.y c.from-y_err.result c.requires.second c.from-y_err.ensures).value c.product-first.ensures.value c.product-second.ensures.value c.product-both.ensures.value refl in
     pair_fits _ _ _ w
 
 pub overflow_add-result-2 : goal.overflow_add-result-2
 overflow_add-result-2 c =
-    let w : ProductWords c.args.x c.args.y c.product-first.result c.product-second.result c.ceil_div.result = product_words c.args.x c.args.y c.reach.result c.reach-2.result c.from-x_err.result c.from-y_err.result c.product-first.result c.product-second.result c.product-both.result c.ceil_div.result c.requires.first c.requires.second c.reach.ensures.low c.reach.ensures.high c.reach-2.ensures.low c.reach-2.ensures.high c.reach.ensures.value c.reach-2.ensures.value (is_error c.args.x c.from-x_err.result c.requires.first c.from-x_err.ensures).value (is_error c.args.y c.from-y_err.result c.requires.second c.from-y_err.ensures).value c.product-first.ensures.value c.product-second.ensures.value c.product-both.ensures.value c.ceil_div.ensures.value in
+    let w : ProductWords c.args.x c.args.y c.product-first.result c.product-second.result c.ceil_div.result = product_words c.args.x c.args.y c.magnitude.result c.magnitude-2.result c.from-x_err.result c.from-y_err.result c.product-first.result c.product-second.result c.product-both.result c.ceil_div.result c.requires.first c.requires.second c.magnitude.ensures.low c.magnitude.ensures.high c.magnitude-2.ensures.low c.magnitude-2.ensures.high c.magnitude.ensures.value c.magnitude-2.ensures.value (is_error c.args.x c.from-x_err.result c.requires.first c.from-x_err.ensures).value (is_error c.args.y c.from-y_err.result c.requires.second c.from-y_err.ensures).value c.product-first.ensures.value c.product-second.ensures.value c.product-both.ensures.value c.ceil_div.ensures.value in
     sum_fits _ _ _ w
 
 pub returns-clause-value : goal.returns-clause-value
 returns-clause-value c =
-    let w : ProductWords c.args.x c.args.y c.product-first.result c.product-second.result c.ceil_div.result = product_words c.args.x c.args.y c.reach.result c.reach-2.result c.from-x_err.result c.from-y_err.result c.product-first.result c.product-second.result c.product-both.result c.ceil_div.result c.requires.first c.requires.second c.reach.ensures.low c.reach.ensures.high c.reach-2.ensures.low c.reach-2.ensures.high c.reach.ensures.value c.reach-2.ensures.value (is_error c.args.x c.from-x_err.result c.requires.first c.from-x_err.ensures).value (is_error c.args.y c.from-y_err.result c.requires.second c.from-y_err.ensures).value c.product-first.ensures.value c.product-second.ensures.value c.product-both.ensures.value c.ceil_div.ensures.value in
+    let w : ProductWords c.args.x c.args.y c.product-first.result c.product-second.result c.ceil_div.result = product_words c.args.x c.args.y c.magnitude.result c.magnitude-2.result c.from-x_err.result c.from-y_err.result c.product-first.result c.product-second.result c.product-both.result c.ceil_div.result c.requires.first c.requires.second c.magnitude.ensures.low c.magnitude.ensures.high c.magnitude-2.ensures.low c.magnitude-2.ensures.high c.magnitude.ensures.value c.magnitude-2.ensures.value (is_error c.args.x c.from-x_err.result c.requires.first c.from-x_err.ensures).value (is_error c.args.y c.from-y_err.result c.requires.second c.from-y_err.ensures).value c.product-first.ensures.value c.product-second.ensures.value c.product-both.ensures.value c.ceil_div.ensures.value in
     sum_word _ _ _ w ∙ w.value
 
 pub returns-clause-low : goal.returns-clause-low
 returns-clause-low c =
-    let w : ProductWords c.args.x c.args.y c.product-first.result c.product-second.result c.ceil_div.result = product_words c.args.x c.args.y c.reach.result c.reach-2.result c.from-x_err.result c.from-y_err.result c.product-first.result c.product-second.result c.product-both.result c.ceil_div.result c.requires.first c.requires.second c.reach.ensures.low c.reach.ensures.high c.reach-2.ensures.low c.reach-2.ensures.high c.reach.ensures.value c.reach-2.ensures.value (is_error c.args.x c.from-x_err.result c.requires.first c.from-x_err.ensures).value (is_error c.args.y c.from-y_err.result c.requires.second c.from-y_err.ensures).value c.product-first.ensures.value c.product-second.ensures.value c.product-both.ensures.value c.ceil_div.ensures.value in
+    let w : ProductWords c.args.x c.args.y c.product-first.result c.product-second.result c.ceil_div.result = product_words c.args.x c.args.y c.magnitude.result c.magnitude-2.result c.from-x_err.result c.from-y_err.result c.product-first.result c.product-second.result c.product-both.result c.ceil_div.result c.requires.first c.requires.second c.magnitude.ensures.low c.magnitude.ensures.high c.magnitude-2.ensures.low c.magnitude-2.ensures.high c.magnitude.ensures.value c.magnitude-2.ensures.value (is_error c.args.x c.from-x_err.result c.requires.first c.from-x_err.ensures).value (is_error c.args.y c.from-y_err.result c.requires.second c.from-y_err.ensures).value c.product-first.ensures.value c.product-second.ensures.value c.product-both.ensures.value c.ceil_div.ensures.value in
     rw (sum_word _ _ _ w) (sum_low w)
 
 pub returns-clause-high : goal.returns-clause-high
 returns-clause-high c =
-    let w : ProductWords c.args.x c.args.y c.product-first.result c.product-second.result c.ceil_div.result = product_words c.args.x c.args.y c.reach.result c.reach-2.result c.from-x_err.result c.from-y_err.result c.product-first.result c.product-second.result c.product-both.result c.ceil_div.result c.requires.first c.requires.second c.reach.ensures.low c.reach.ensures.high c.reach-2.ensures.low c.reach-2.ensures.high c.reach.ensures.value c.reach-2.ensures.value (is_error c.args.x c.from-x_err.result c.requires.first c.from-x_err.ensures).value (is_error c.args.y c.from-y_err.result c.requires.second c.from-y_err.ensures).value c.product-first.ensures.value c.product-second.ensures.value c.product-both.ensures.value c.ceil_div.ensures.value in
+    let w : ProductWords c.args.x c.args.y c.product-first.result c.product-second.result c.ceil_div.result = product_words c.args.x c.args.y c.magnitude.result c.magnitude-2.result c.from-x_err.result c.from-y_err.result c.product-first.result c.product-second.result c.product-both.result c.ceil_div.result c.requires.first c.requires.second c.magnitude.ensures.low c.magnitude.ensures.high c.magnitude-2.ensures.low c.magnitude-2.ensures.high c.magnitude.ensures.value c.magnitude-2.ensures.value (is_error c.args.x c.from-x_err.result c.requires.first c.from-x_err.ensures).value (is_error c.args.y c.from-y_err.result c.requires.second c.from-y_err.ensures).value c.product-first.ensures.value c.product-second.ensures.value c.product-both.ensures.value c.ceil_div.ensures.value in
     rw (sum_word _ _ _ w) (sum_high w)

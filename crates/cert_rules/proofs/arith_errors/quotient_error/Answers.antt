@@ -4,15 +4,12 @@ use Rattle.cert_rules.specs.ArithRules.{quotient_error}
 use Rattle.cert_rules.proofs.ArithSizes.{above_words}
 use Rattle.cert_rules.proofs.arith_errors.quotient_error.Goals as goal
 
-pub ceil_div-requires-clause-divisor : goal.ceil_div-requires-clause-divisor
-ceil_div-requires-clause-divisor c = rw (to_z-of_z w128 c.divisors.result (record { sfits = c.divisors.type_inv })) c.divisors.ensures.low
-
 pub overflow_add-result : goal.overflow_add-result
 overflow_add-result c =
-    (above_words c.moves.result c.divisors.result _ _ c.ceil_div.result c.moves.ensures.low c.moves.ensures.high c.divisors.ensures.low (record { sfits = c.divisors.type_inv }) c.moves.ensures.value c.divisors.ensures.value c.ceil_div.ensures.value).fits
+    (above_words c.moves.result c.raised_divisors.result _ _ c.ceil_div.result c.moves.ensures.low c.moves.ensures.high c.raised_divisors.ensures.low (record { sfits = c.raised_divisors.type_inv }) c.moves.ensures.value c.raised_divisors.ensures.value c.ceil_div.ensures.value).fits
 
 pub returns : goal.returns
 unfolding quotient_error
 returns c =
     let moves = rw (to_z-of_z w128 c.args.top c.ranges.top, to_z-of_z w128 c.args.err c.ranges.err) at c.moves.ensures.value in
-    (above_words c.moves.result c.divisors.result _ _ c.ceil_div.result c.moves.ensures.low c.moves.ensures.high c.divisors.ensures.low (record { sfits = c.divisors.type_inv }) moves c.divisors.ensures.value c.ceil_div.ensures.value).value
+    (above_words c.moves.result c.raised_divisors.result _ _ c.ceil_div.result c.moves.ensures.low c.moves.ensures.high c.raised_divisors.ensures.low (record { sfits = c.raised_divisors.type_inv }) moves c.raised_divisors.ensures.value c.ceil_div.ensures.value).value

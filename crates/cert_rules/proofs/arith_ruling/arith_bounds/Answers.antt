@@ -1,8 +1,8 @@
 use Rattle.std.proofs.Common.{rules, ◌∙◌, sym}
 use Rattle.std.specs.Int.{w128}
 use Rattle.std.proofs.lemmas.Int.{to_z-of_z}
+use Rattle.fx_core.specs.Arguments.{three}
 use Rattle.cert_rules.specs.ArithRules.{arith_bounds, arith_may_divide_by_zero}
-use Rattle.cert_rules.specs.ArithCorners.{three}
 use Rattle.cert_rules.proofs.ArithDivisorEnds.{divisors_at_ends, gives_bounds, gives_none}
 use Rattle.cert_rules.proofs.arith_ruling.arith_bounds.Goals as goal
 

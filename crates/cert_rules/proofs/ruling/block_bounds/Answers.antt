@@ -31,19 +31,19 @@ operation_bounds-requires-clause-shift c = (arith_arguments (goal.at.operation_b
 
 pub operation_bounds-requires-clause-first : goal.operation_bounds-requires-clause-first
 operation_bounds-requires-clause-first c =
-    entry_small c.args.net.now.wires c.args.all.now _ _ c.requires.sound (arith_arguments (goal.at.operation_bounds-requires-clause-first c).In-Arith).first c.value_entry-first.ensures
+    entry_small c.args.net.now.wires c.args.all.now _ _ c.requires.allowed (arith_arguments (goal.at.operation_bounds-requires-clause-first c).In-Arith).first c.value_entry-first.ensures
 
 pub operation_bounds-requires-clause-second : goal.operation_bounds-requires-clause-second
 operation_bounds-requires-clause-second c =
-    entry_small c.args.net.now.wires c.args.all.now _ _ c.requires.sound (arith_arguments (goal.at.operation_bounds-requires-clause-second c).In-Arith).second c.value_entry-second.ensures
+    entry_small c.args.net.now.wires c.args.all.now _ _ c.requires.allowed (arith_arguments (goal.at.operation_bounds-requires-clause-second c).In-Arith).second c.value_entry-second.ensures
 
 pub operation_bounds-requires-clause-third : goal.operation_bounds-requires-clause-third
 operation_bounds-requires-clause-third c =
-    entry_small c.args.net.now.wires c.args.all.now _ _ c.requires.sound (arith_arguments (goal.at.operation_bounds-requires-clause-third c).In-Arith).third c.value_entry-third.ensures
+    entry_small c.args.net.now.wires c.args.all.now _ _ c.requires.allowed (arith_arguments (goal.at.operation_bounds-requires-clause-third c).In-Arith).third c.value_entry-third.ensures
 
 pub returns-in-Arith : goal.returns-in-Arith
 returns-in-Arith c =
-    arith_returns c.args.net.now c.args.all.now c.args.wire.0 c.args.block _ _ _ _ _ _ _ _ _ _ c.requires.valid c.requires.sound c.requires.there c.requires.block c.in-Arith.is c.value_entry-first.ensures c.value_entry-second.ensures c.value_entry-third.ensures c.operation_bounds.ensures
+    arith_returns c.args.net.now c.args.all.now c.args.wire.0 c.args.block _ _ _ _ _ _ _ _ _ _ c.requires.valid c.requires.allowed c.requires.there c.requires.block c.in-Arith.is c.value_entry-first.ensures c.value_entry-second.ensures c.value_entry-third.ensures c.operation_bounds.ensures
 
 pub point_at-requires-clause-there : goal.point_at-requires-clause-there
 point_at-requires-clause-there c = (form_arguments c).first
@@ -61,12 +61,12 @@ value_entry-second-requires-in-Scaled c =
 
 pub form_bounds-requires-clause-first : goal.form_bounds-requires-clause-first
 form_bounds-requires-clause-first c =
-    entry_small c.args.net.now.wires c.args.all.now _ _ c.requires.sound (form_arguments (goal.at.form_bounds-requires-clause-first c).In-Scaled).first c.value_entry-first-in-Scaled.ensures
+    entry_small c.args.net.now.wires c.args.all.now _ _ c.requires.allowed (form_arguments (goal.at.form_bounds-requires-clause-first c).In-Scaled).first c.value_entry-first-in-Scaled.ensures
 
 pub form_bounds-requires-clause-second : goal.form_bounds-requires-clause-second
 form_bounds-requires-clause-second c =
-    entry_small c.args.net.now.wires c.args.all.now _ _ c.requires.sound (form_arguments (goal.at.form_bounds-requires-clause-second c).In-Scaled).second c.value_entry-second-in-Scaled.ensures
+    entry_small c.args.net.now.wires c.args.all.now _ _ c.requires.allowed (form_arguments (goal.at.form_bounds-requires-clause-second c).In-Scaled).second c.value_entry-second-in-Scaled.ensures
 
 pub returns-in-Scaled : goal.returns-in-Scaled
 returns-in-Scaled c =
-    scaled_returns c.args.net.now c.args.all.now c.args.wire.0 c.args.block _ _ _ _ _ _ _ _ c.requires.valid c.requires.sound c.requires.there c.requires.block c.in-Scaled.is (same_points _ _ _ _ _ _ c.point_at.ensures.point c.point_at-in-Scaled.ensures.point c.point_at-in-Scaled-2.ensures.point) c.value_entry-first-in-Scaled.ensures c.value_entry-second-in-Scaled.ensures c.form_bounds.ensures
+    scaled_returns c.args.net.now c.args.all.now c.args.wire.0 c.args.block _ _ _ _ _ _ _ _ c.requires.valid c.requires.allowed c.requires.there c.requires.block c.in-Scaled.is (same_points _ _ _ _ _ _ c.point_at.ensures.point c.point_at-in-Scaled.ensures.point c.point_at-in-Scaled-2.ensures.point) c.value_entry-first-in-Scaled.ensures c.value_entry-second-in-Scaled.ensures c.form_bounds.ensures

@@ -1,8 +1,8 @@
 use Rattle.std.proofs.Common.{rules, ◌∙◌, sym}
 use Rattle.std.specs.Int.{w128}
 use Rattle.std.proofs.lemmas.Int.{to_z-of_z}
+use Rattle.fx_core.specs.Arguments.{two}
 use Rattle.cert_rules.specs.ScaledRules.{scaled_bounds, scaled_may_divide_by_zero}
-use Rattle.cert_rules.specs.ScaledCorners.{two}
 use Rattle.cert_rules.proofs.ArithDivisorEnds.{gives_bounds, gives_none}
 use Rattle.cert_rules.proofs.ScaledArguments.{form_divisors_at_ends}
 use Rattle.cert_rules.proofs.scaled_ruling.scaled_bounds.Goals as goal

@@ -6,7 +6,7 @@ use Rattle.std.proofs.lemmas.Int.{clamps, ints, to_z-of_z}
 use borrow.Author.Differences.{fits_in}
 use Rattle.cert_rules.specs.declared.bounds.Bounds.{Bounds}
 use Rattle.cert_rules.specs.Entries.{IsSmall}
-use Rattle.cert_rules.specs.ArithRules.{holds_zero, least_reach, reach}
+use Rattle.cert_rules.specs.ArithRules.{holds_zero, mignitude, magnitude}
 use Rattle.cert_rules.proofs.ArithCornerValues.{word}
 
 end_word : (m : ℕ) (a : ℤ) → a ≡ pos m → a <ℤ pos (2 ^ 32) → (word a ≡ pos m) × (m < 2 ^ 32)
@@ -15,8 +15,8 @@ end_word m a e h =
     (ap word e ∙ to_z-of_z w128 (pos m) (fits_in w128 (pos m) (omega (arith, ints, small))), omega (arith, ints, small))
 
 -- what the greater of two absolute values is, and how large
-pub record IsReach (b : Bounds) (r : ℤ) : Type 0 where
-  pub value : word r ≡ reach b
+pub record IsMagnitude (b : Bounds) (r : ℤ) : Type 0 where
+  pub value : word r ≡ magnitude b
   pub low : pos 0 ≤ℤ word r
   pub high : word r <ℤ pos (2 ^ 32)
 
@@ -36,8 +36,8 @@ ends_are b a d s e f h k =
       end_word (unsigned_abs b.hi) d (f ∙ ap (λ z. pos (unsigned_abs z)) (to_z-of_z w64 b.hi high_fits)) k,
     )
 
-pub reach_is : (b : Bounds) (a d r : ℤ) → IsSmall b → a ≡ pos (unsigned_abs (to_z w64 (of_z w64 b.lo))) → d ≡ pos (unsigned_abs (to_z w64 (of_z w64 b.hi))) → a <ℤ pos (2 ^ 32) → d <ℤ pos (2 ^ 32) → r ≡ int_max (word a) (word d) → IsReach b r
-reach_is b a d r s e f h k is =
+pub magnitude_is : (b : Bounds) (a d r : ℤ) → IsSmall b → a ≡ pos (unsigned_abs (to_z w64 (of_z w64 b.lo))) → d ≡ pos (unsigned_abs (to_z w64 (of_z w64 b.hi))) → a <ℤ pos (2 ^ 32) → d <ℤ pos (2 ^ 32) → r ≡ int_max (word a) (word d) → IsMagnitude b r
+magnitude_is b a d r s e f h k is =
     let ends = ends_are b a d s e f h k in
     let first = ends.0 in
     let second = ends.1 in
@@ -51,8 +51,8 @@ reach_is b a d r s e f h k is =
     }
 
 -- what the lesser of two absolute values is, and how large
-pub record IsLeastReach (b : Bounds) (r : ℤ) : Type 0 where
-  pub value : word r ≡ least_reach b
+pub record IsMignitude (b : Bounds) (r : ℤ) : Type 0 where
+  pub value : word r ≡ mignitude b
   pub low : pos 0 ≤ℤ word r
   pub high : word r <ℤ pos (2 ^ 32)
 
@@ -60,11 +60,11 @@ lesser_word : (m n : ℕ) (r : ℤ) → m < 2 ^ 32 → n < 2 ^ 32 → r ≡ int_
 lesser_word m n r h k is =
     ap word is ∙ to_z-of_z w128 (int_min (pos m) (pos n)) (fits_in w128 _ (omega (arith, ints, clamps, h, k)))
 
-least_if : (b : Bounds) (test : Bool) → test ≡ holds_zero b → test ≡ false → int_min (pos (unsigned_abs b.lo)) (pos (unsigned_abs b.hi)) ≡ least_reach b
+least_if : (b : Bounds) (test : Bool) → test ≡ holds_zero b → test ≡ false → int_min (pos (unsigned_abs b.lo)) (pos (unsigned_abs b.hi)) ≡ mignitude b
 least_if b test e fails = rw (sym e ∙ fails) refl
 
-pub least_reach_is : (b : Bounds) (test : Bool) (a d r : ℤ) → IsSmall b → test ≡ holds_zero b → test ≡ false → a ≡ pos (unsigned_abs (to_z w64 (of_z w64 b.lo))) → d ≡ pos (unsigned_abs (to_z w64 (of_z w64 b.hi))) → a <ℤ pos (2 ^ 32) → d <ℤ pos (2 ^ 32) → r ≡ int_min (word a) (word d) → IsLeastReach b r
-least_reach_is b test a d r s t fails e f h k is =
+pub mignitude_is : (b : Bounds) (test : Bool) (a d r : ℤ) → IsSmall b → test ≡ holds_zero b → test ≡ false → a ≡ pos (unsigned_abs (to_z w64 (of_z w64 b.lo))) → d ≡ pos (unsigned_abs (to_z w64 (of_z w64 b.hi))) → a <ℤ pos (2 ^ 32) → d <ℤ pos (2 ^ 32) → r ≡ int_min (word a) (word d) → IsMignitude b r
+mignitude_is b test a d r s t fails e f h k is =
     let ends = ends_are b a d s e f h k in
     let first = ends.0 in
     let second = ends.1 in

@@ -1,9 +1,0 @@
-use Rattle.cert_rules.proofs.Findings.{sound_not, sound_when}
-use Rattle.cert_rules.proofs.checking.is_sound.Goals as goal
-
-pub returns-then-allowed : goal.returns-then-allowed
-returns-then-allowed c =
-    sound_when _ c.args.entries.now c.args.part.0 _ _ c.allowed.ensures c.if-allowed.true c.is_proper.ensures
-
-pub returns-else-allowed : goal.returns-else-allowed
-returns-else-allowed c = sound_not _ c.args.entries.now c.args.part.0 _ c.allowed.ensures c.if-allowed.false
