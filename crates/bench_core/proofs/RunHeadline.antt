@@ -6,7 +6,7 @@ use Rattle.net_model.specs.declared.wires.Wire.{Wire}
 use Rattle.net_model.specs.Wires.{NetData}
 use Rattle.net_text.proofs.ReadingLaw.{network_of_valid}
 use Rattle.net_meaning.specs.Blocks.{machine}
-use Rattle.net_meaning.specs.Runs.{table}
+use Rattle.net_meaning.specs.Runs.{HasAllInputs, table}
 use Rattle.net_meaning.proofs.TableRun.{table_is_run}
 use Rattle.net_meaning.proofs.OneRun.{runs_agree}
 use Rattle.rec_csv.specs.Recordings.{Headed, Recording, RecordingFault, no_header, bad_header, bad_row, head_of, read_below, recording_of}
@@ -22,6 +22,7 @@ use Rattle.bench_core.specs.WholeAnswer.{answer_of, answer_of_request}
 use Rattle.bench_core.specs.Headline.{IsRunOf}
 use Rattle.bench_core.specs.Clauses.{Runs}
 use Rattle.bench_core.proofs.PassedSteps.{passed_both}
+use Rattle.rec_csv.proofs.AllInputs.{rows_have_inputs}
 
 -- ---- a recording that is read out
 
@@ -49,6 +50,7 @@ same_recording r h f =
 record ReadOut (net : NetData) (bytes : List ℕ) (o : Outcome) : Type 0 where
   pub rows : List (List ℤ)
   pub is_recording : recording_of net.wires bytes ≡ record { is_headed = true; rows = rows; fault = None }
+  pub has_inputs : HasAllInputs net.wires rows
   pub prints : o.out ≡ run_text net (table machine net.wires rows)
 
 bytes_read_out : (net : NetData) (bytes : List ℕ) → (run_bytes net bytes).status ≡ 0 → ReadOut net bytes (run_bytes net bytes)
@@ -60,6 +62,7 @@ bytes_read_out net bytes h =
     record {
       rows = r.rows;
       is_recording = same_recording r is e.0;
+      has_inputs = rows_have_inputs net.wires bytes;
       prints = ap (λ l. run_printed net r.is_headed r.rows ++ l) e.1 ∙ append-nil (run_printed net r.is_headed r.rows) ∙ ap (λ b. run_printed net b r.rows) is;
     }
 
@@ -75,6 +78,7 @@ run_done files net rec h =
     let n = passed_both files net rec recording_limit run_bytes h in
     let r = bytes_read_out n.network (bytes_of files rec) n.done_after in
     let valid = network_of_valid (bytes_of files net) n.network n.is_network in
+    let run = table_is_run machine n.network valid r.rows r.has_inputs in
     record {
       runs = record {
         network = n.network;
@@ -82,8 +86,8 @@ run_done files net rec h =
         cells = table machine n.network.wires r.rows;
         is_network = n.is_network;
         is_recording = r.is_recording;
-        is_run = table_is_run machine n.network valid r.rows;
-        is_only = λ others run. runs_agree machine n.network valid r.rows others (table machine n.network.wires r.rows) run (table_is_run machine n.network valid r.rows);
+        is_run = run;
+        is_only = λ others is. runs_agree machine n.network valid r.rows others (table machine n.network.wires r.rows) is run;
         prints = n.prints ∙ r.prints;
       };
     }
