@@ -1,7 +1,7 @@
 -- A name is read again as the routine that it is written for, and what is read is what is written.
 use Rattle.std.proofs.Common.{◌≡◌, ℕ, zero, suc, ◌<◌, ◌==◌, Bool, true, false, not, cond, ◌&&◌, ◌||◌, inl, inr, List, [], ◌∷◌, ◌++◌, length, find, is_some, slice_index_or, All, IfSome, Option, Some, None, refl, sym, ap, ◌∙◌, subst, arith}
 use Rattle.std.specs.List.{list_all, Any}
-use Rattle.std.proofs.lemmas.Bool.{and_parts, or_cases, true≢false}
+use Rattle.std.proofs.lemmas.Bool.{and_parts, not-true, or_cases, true≢false}
 use Rattle.std.proofs.lemmas.Bool.Decides.{Decides-eqb}
 use Rattle.std.proofs.lemmas.Option.{option_and_then_some, same_Some}
 use denote.Enum.Bare.{same_true, true_same}
@@ -31,10 +31,6 @@ fronts_apart row other = not (begins (front_of row) (front_of other)) && not (be
 abbrev pub are_apart : List Row → Bool
 are_apart [] = true
 are_apart (row ∷ others) = list_all (fronts_apart row) others && are_apart others
-
-not_true : (b : Bool) → not b ≡ true → b ≡ false
-not_true true h = absurd (cc)
-not_true false h = refl
 
 both_begin : (a b xs ys : List ℕ) → a ++ xs ≡ b ++ ys → not (begins a b) ≡ true → not (begins b a) ≡ true → ⊥
 both_begin [] b xs ys e h k = absurd (cc)
@@ -219,7 +215,7 @@ pub built_has_one_width : (routine : Routine) (v : Types) (word : List ℕ) → 
 built_has_one_width routine v word n built =
     let keeps : keeps_one_width n.1 ≡ true = ap keeps_one_width (sym n.3) ∙ all_at keeps_one_width rows table_keeps_width n.0 n.1 n.2 in
     elim (or_cases (not (is_built (routine_of n.1))) (keep_width (parts_of n.1)) keeps) [
-      | inl not_built ↦ absurd (true≢false (sym (ap is_built n.4.0 ∙ built) ∙ not_true _ not_built))
+      | inl not_built ↦ absurd (true≢false (sym (ap is_built n.4.0 ∙ built) ∙ not-true _ not_built))
       | inr same ↦ one_width (parts_of n.1) v same n.4.1
     ]
 

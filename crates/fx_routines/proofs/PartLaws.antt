@@ -4,7 +4,7 @@ use Rattle.std.specs.List.{list_all, list_any}
 use Rattle.std.proofs.Math.Seq.{take-append_seam, drop-append_seam}
 use Rattle.std.proofs.lemmas.List.{take-append-drop}
 use Rattle.std.proofs.lemmas.Slice.Eq.{bytes_eq-Decides}
-use Rattle.std.proofs.lemmas.Bool.{and_parts, cases_Bool}
+use Rattle.std.proofs.lemmas.Bool.{and_from, and_parts, cases_Bool, not-true}
 use Rattle.std.proofs.lemmas.Bool.Decides.{Decides-eqb}
 use Rattle.std.proofs.lemmas.Option.{cond_some, option_and_then_some, some_pair_parts, same_Some}
 use denote.Enum.Bare.{same_true, true_same}
@@ -60,13 +60,6 @@ first_type_gives text t rest =
     (with_type_gives S32 t text rest _ _ (after_gives (type_word S32) text) (λ h. absurd (cc)))))))
 
 -- ---- tests
-
-both : (a b : Bool) → a ≡ true → b ≡ true → (a && b) ≡ true
-both a b h k = rw (h, k) refl
-
-not_true : (b : Bool) → not b ≡ true → b ≡ false
-not_true true h = absurd (cc)
-not_true false h = refl
 
 repeats_gives : (chosen : Bool) (t other : Ty) → repeats chosen t other ≡ true → chosen ≡ false → t ≡ other
 repeats_gives true t other h n = absurd (cc)
@@ -150,7 +143,7 @@ reads_rest (part.FirstAgain ∷ parts) s v free of a =
     (reads_rest parts s v free of a)
 reads_rest (part.SecondAgain ∷ parts) s v free of a =
     let f = and_parts _ (are_free parts) free in
-    goes part.SecondAgain parts s s v _ (words parts v) (reads_word (type_word s.y) (type_word v.y) s (words parts v) (ap type_word (sym (a.1 (not_true _ f.0)))))
+    goes part.SecondAgain parts s s v _ (words parts v) (reads_word (type_word s.y) (type_word v.y) s (words parts v) (ap type_word (sym (a.1 (not-true _ f.0)))))
     (reads_rest parts s v f.1 of a)
 reads_rest (part.U8 ∷ parts) s v free of a = goes part.U8 parts s s v _ (words parts v) (reads_word (codes "u8") (codes "u8") s (words parts v) refl) (reads_rest parts s v free of a)
 reads_rest (part.S8 ∷ parts) s v free of a = goes part.S8 parts s s v _ (words parts v) (reads_word (codes "s8") (codes "s8") s (words parts v) refl) (reads_rest parts s v free of a)
@@ -200,22 +193,22 @@ rest_gives (part.Second class ∷ parts) s v text free h =
     parted (part.Second class) parts s v text h (λ next e k.
     let r = rest_gives parts next.0 v next.1 f.1 k in
     let g = chosen_gives class (λ t. types s.x t s.o) text next e in
-    let t = ap (λ w. w.y) g.2 ∙ r.0.1 (not_true _ f.0) in
+    let t = ap (λ w. w.y) g.2 ∙ r.0.1 (not-true _ f.0) in
     let x = ap (λ w. w.x) g.2 ∙ r.0.0 in (
       (x, (λ n. absurd (cc)), (λ n. ap (λ w. w.o) g.2 ∙ r.0.2 n)),
       g.1 ∙ ap₂ (λ a b. type_word a ++ b) t r.1,
-      both _ _ (sym (ap₂ (λ a b. belongs class a b) x t) ∙ g.3) r.2,
+      and_from _ _ (sym (ap₂ (λ a b. belongs class a b) x t) ∙ g.3) r.2,
     ))
 rest_gives (part.Output class ∷ parts) s v text free h =
     let f = and_parts (not (list_any is_output parts)) (are_free parts) free in
     parted (part.Output class) parts s v text h (λ next e k.
     let r = rest_gives parts next.0 v next.1 f.1 k in
     let g = chosen_gives class (λ t. types s.x s.y t) text next e in
-    let t = ap (λ w. w.o) g.2 ∙ r.0.2 (not_true _ f.0) in
+    let t = ap (λ w. w.o) g.2 ∙ r.0.2 (not-true _ f.0) in
     let x = ap (λ w. w.x) g.2 ∙ r.0.0 in (
       (x, (λ n. ap (λ w. w.y) g.2 ∙ r.0.1 n), (λ n. absurd (cc))),
       g.1 ∙ ap₂ (λ a b. type_word a ++ b) t r.1,
-      both _ _ (sym (ap₂ (λ a b. belongs class a b) x t) ∙ g.3) r.2,
+      and_from _ _ (sym (ap₂ (λ a b. belongs class a b) x t) ∙ g.3) r.2,
     ))
 rest_gives (part.FirstAgain ∷ parts) s v text free h =
     parted part.FirstAgain parts s v text h (λ next e k.
@@ -225,7 +218,7 @@ rest_gives (part.SecondAgain ∷ parts) s v text free h =
     let f = and_parts (not (list_any is_second parts)) (are_free parts) free in
     parted part.SecondAgain parts s v text h (λ next e k.
     let r = word_read (type_word s.y) parts s v text next e (rest_gives parts next.0 v next.1 f.1 k) in
-    (r.0, r.1 ∙ ap (λ t. type_word t ++ words parts v) (r.0.1 (not_true _ f.0)), r.2))
+    (r.0, r.1 ∙ ap (λ t. type_word t ++ words parts v) (r.0.1 (not-true _ f.0)), r.2))
 rest_gives (part.U8 ∷ parts) s v text free h =
     parted part.U8 parts s v text h (λ next e k. word_read (codes "u8") parts s v text next e (rest_gives parts next.0 v next.1 free k))
 rest_gives (part.S8 ∷ parts) s v text free h =
@@ -248,7 +241,7 @@ fits_parts parts v h =
 
 fits_from : (parts : List Part) (v : Types) → list_all (has_class v) parts ≡ true → (list_any is_first parts ≡ false → v.x ≡ U8)
     → (list_any is_second parts ≡ false → v.y ≡ v.x) → (list_any is_output parts ≡ false → v.o ≡ v.x) → fits parts v ≡ true
-fits_from parts v a b c d = both _ _ (both _ _ (both _ _ a (repeats_holds _ v.x U8 b)) (repeats_holds _ v.y v.x c)) (repeats_holds _ v.o v.x d)
+fits_from parts v a b c d = and_from _ _ (and_from _ _ (and_from _ _ a (repeats_holds _ v.x U8 b)) (repeats_holds _ v.y v.x c)) (repeats_holds _ v.o v.x d)
 
 -- ---- inputs of one width
 
@@ -318,7 +311,7 @@ gives_from_first class parts text v free h =
     let g = chosen_gives class (λ t. types t t t) text next e in
     let x = ap (λ w. w.x) g.2 ∙ r.0.0 in (
       g.1 ∙ ap₂ (λ a b. type_word a ++ b) x r.1,
-      fits_from (part.First class ∷ parts) v (both _ _ (sym (ap (λ a. belongs class a a) x) ∙ g.3) r.2)
+      fits_from (part.First class ∷ parts) v (and_from _ _ (sym (ap (λ a. belongs class a a) x) ∙ g.3) r.2)
           (λ n. absurd (cc))
           (λ n. sym (ap (λ w. w.y) g.2 ∙ r.0.1 n) ∙ x)
           (λ n. sym (ap (λ w. w.o) g.2 ∙ r.0.2 n) ∙ x),

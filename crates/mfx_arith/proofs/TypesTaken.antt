@@ -1,6 +1,6 @@
 -- What the rows of the operations take, said by equations of types.
 use Rattle.std.proofs.Common.{◌≡◌, ◌↔◌, ◌==◌, Bool, true, false, cond, ◌&&◌, is_some, Some, None, refl, sym, ◌∙◌}
-use Rattle.std.proofs.lemmas.Bool.{and_parts}
+use Rattle.std.proofs.lemmas.Bool.{and_from, and_parts}
 use Rattle.std.proofs.lemmas.Bool.Decides.{Decides-eqb}
 use denote.Enum.Bare.{same_true, true_same}
 use Rattle.fx_core.specs.Types.{width_of}
@@ -31,9 +31,6 @@ alone : (a : Bool) → a ≡ true → (a && true) ≡ true
 alone true h = refl
 alone false h = absurd (cc)
 
-both : (a b : Bool) → a ≡ true → b ≡ true → (a && b) ≡ true
-both a b h k = rw (h, k) refl
-
 abbrev one_width : Variant → Bool
 one_width v = width_of v.y == width_of v.x
 
@@ -57,7 +54,7 @@ one_type row v = (
   (λ h. let a = and_parts (same_type v.y v.x) (same_type v.o v.x) (if_fits _ row h) in
       let y = same_true the_type tt v.y v.x a.0 in
       (sym y, y ∙ sym (same_true the_type tt v.o v.x a.1))),
-  (λ h. is_found _ row (both _ _ (true_same the_type v.y v.x (sym h.0)) (true_same the_type v.o v.x (sym (h.0 ∙ h.1))))),
+  (λ h. is_found _ row (and_from _ _ (true_same the_type v.y v.x (sym h.0)) (true_same the_type v.o v.x (sym (h.0 ∙ h.1))))),
 )
 
 -- what the table's row of an operation takes is what the operation takes

@@ -21,7 +21,7 @@ powers a c m h k =
     sym (pow-add 2 (c - a) (m - c)) ∙ ap (λ n. 2 ^ n) e
 
 -- a product with 1
-times_one : (n : ℤ) → n *ℤ pos 1 ≡ n
+pub times_one : (n : ℤ) → n *ℤ pos 1 ≡ n
 times_one n = omega (arith, ints)
 
 -- a count that is raised twice

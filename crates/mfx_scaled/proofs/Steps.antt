@@ -25,7 +25,7 @@ use Rattle.mfx_scaled.specs.declared.binary_points.Points.{Points}
 use Rattle.mfx_scaled.specs.Calls.{scaled_value}
 use Rattle.mfx_scaled.specs.Counts.{count_in, raised}
 use Rattle.mfx_scaled.specs.Formulas.{point_factor}
-use Rattle.mfx_scaled.proofs.PointLaws.{is_whole_at_point, raised_twice}
+use Rattle.mfx_scaled.proofs.PointLaws.{is_whole_at_point, raised_twice, times_one}
 
 -- ---- the rounding of a fraction by any of its names
 
@@ -51,10 +51,6 @@ rounded_is {f} {d} {x} i =
 pub value_is : (t : Ty) {f g : Fraction} {d : ℕ} {x : ℤ} → Is f d x → Is g d x → value_in Zero t None f ≡ value_in Zero t None g
 unfolding value_in
 value_is t i j = ap (saturated t) (rounded_is i ∙ sym (rounded_is j))
-
--- a product with 1
-times_one : (n : ℤ) → n *ℤ pos 1 ≡ n
-times_one n = omega (arith, ints)
 
 -- ---- one count
 

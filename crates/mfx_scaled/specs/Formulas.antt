@@ -11,12 +11,12 @@ unfoldable pub point_factor : ℕ → ℕ → Fraction
 point_factor a c = if nat_le a c then whole (pos (2 ^ (c - a))) else over (pos 1) (2 ^ (a - c))
 
 -- the first input at the output's binary point
-abbrev pub first_given : Points → (ℕ → Fraction) → Fraction
-first_given points given = times (given 0) (point_factor points.a points.c)
+abbrev pub first_input : Points → (ℕ → Fraction) → Fraction
+first_input points given = times (given 0) (point_factor points.a points.c)
 
 -- the second input at the output's binary point
-abbrev pub second_given : Points → (ℕ → Fraction) → Fraction
-second_given points given = times (given 1) (point_factor points.b points.c)
+abbrev pub second_input : Points → (ℕ → Fraction) → Fraction
+second_input points given = times (given 1) (point_factor points.b points.c)
 
 -- the dividend of a quotient: the first input times two to the power of c + b - a
 abbrev pub dividend : Points → (ℕ → Fraction) → Fraction
@@ -24,10 +24,10 @@ dividend points given = times (given 0) (point_factor points.a (points.c + point
 
 -- the formula of each form; a quotient by 0 is 0 here
 abbrev pub scaled_formula : ScaledOp → Points → (ℕ → Fraction) → Fraction
-scaled_formula Convert points given = first_given points given
-scaled_formula Add points given = plus (first_given points given) (second_given points given)
-scaled_formula Sub points given = minus (first_given points given) (second_given points given)
-scaled_formula AbsDiff points given = absolute (minus (first_given points given) (second_given points given))
+scaled_formula Convert points given = first_input points given
+scaled_formula Add points given = plus (first_input points given) (second_input points given)
+scaled_formula Sub points given = minus (first_input points given) (second_input points given)
+scaled_formula AbsDiff points given = absolute (minus (first_input points given) (second_input points given))
 scaled_formula Mul points given = times (times (given 0) (given 1)) (point_factor (points.a + points.b) points.c)
 scaled_formula Div points given = divided (dividend points given) (given 1)
 
