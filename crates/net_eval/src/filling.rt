@@ -32,17 +32,17 @@ fn fill(steps: &[Step], inputs: &[i64], values: &mut [i64])
     ensures { values.new ≡ values_of steps.now inputs.now (length steps.now) }
 {
     for i in 0..steps.len() {
-        let value = step_value(steps[i], inputs, &values[..i]);
+        let value = step_value(&steps[i], inputs, &values[..i]);
         values[i] = value;
     }
 }
 
 /// The value of a step, from the row's inputs and the values of the earlier wires.
-fn step_value(step: Step, inputs: &[i64], values: &[i64]) -> i64
-    requires { IsReady step inputs.now values.now }
-    ensures { result ≡ step_value step inputs.now values.now }
+fn step_value(step: &Step, inputs: &[i64], values: &[i64]) -> i64
+    requires { IsReady step.now inputs.now values.now }
+    ensures { result ≡ step_value step.now inputs.now values.now }
 {
-    match step {
+    match *step {
         Step::Read { place } => inputs[place],
         Step::Fixed { value } => value,
         Step::Arith {
