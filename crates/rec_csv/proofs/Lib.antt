@@ -4,6 +4,7 @@ pub mod ColumnFacts
 pub mod HeldValues
 pub mod PlainLines
 pub mod SlotFacts
+pub mod UntrimmedNumbers
 pub mod WalkFacts
 pub mod RowFacts
 pub mod AllInputs

@@ -1,7 +1,9 @@
 // The values of a row.
-ghost use Rattle.std.specs.Prelude.{◌≡◌, length, IfErr, OnOk, Ok};
+ghost use Rattle.std.specs.Prelude.{◌≡◌, length, option_map, IfErr, OnOk, Ok};
 ghost use Rattle.csv.specs.Records.{fields_of};
+ghost use Rattle.text_words.specs.Numbers.{held, number_of};
 ghost use Rattle.net_model.specs.Validity.{kind_holds};
+ghost use Rattle.rec_csv.specs.Fields.{trimmed};
 ghost use Rattle.rec_csv.specs.Rows.{Leaves, Tells, good_values, input_value, input_values};
 
 use crate::columns::Column;
@@ -35,7 +37,7 @@ pub fn fill(columns: &[Column], row: &ByteRecord, values: &mut [i64]) -> Result<
 pub fn input_value(column: Column, field: &[u8]) -> Result<i64, RowFault>
     ensures { result ≡ input_value column field.now }
 {
-    let Some(value) = number(trimmed(field)) else {
+    let Some(value) = number_in(field) else {
         return Err(RowFault::BadNumber(column.wire));
     };
     if kind_holds(column.kind, value) {
@@ -43,6 +45,24 @@ pub fn input_value(column: Column, field: &[u8]) -> Result<i64, RowFault>
     } else {
         Err(RowFault::OutOfType(column.wire))
     }
+}
+
+// The number of a field. What is a number as it stands has no spaces or tabs round it, so it isn't trimmed.
+#[tactic(auto, using(crate::proofs::UntrimmedNumbers::number_untrimmed))]
+#[inline(always)]
+fn number_in(field: &[u8]) -> Option<i64>
+    ensures { result ≡ option_map held (number_of (trimmed field.now)) }
+{
+    match number(field) {
+        Some(value) => Some(value),
+        None => trimmed_number(field),
+    }
+}
+
+fn trimmed_number(field: &[u8]) -> Option<i64>
+    ensures { result ≡ option_map held (number_of (trimmed field.now)) }
+{
+    number(trimmed(field))
 }
 
 fn kind_holds(kind: Kind, value: i64) -> bool
