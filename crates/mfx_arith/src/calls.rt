@@ -1,8 +1,11 @@
-// A routine by its operation and its types. The native types are chosen one after the other.
+// A routine by its operation and its types. Sums, differences and the lesser and the greater of two
+// are exact in 64 bits and computed there at once, which takes fewer instructions. For the others
+// the native types are chosen one after the other.
 
 ghost use Rattle.std.specs.Prelude.{◌≡◌, ◌≤◌};
 ghost use Rattle.fx_core.specs.Types.{Holds};
 ghost use Rattle.mfx_arith.specs.Calls.{arith_value};
+ghost use Rattle.mfx_arith.specs.Integers.{whole_in};
 ghost use Rattle.mfx_arith.specs.Operations.{HasArguments, Takes, types};
 
 use crate::limits::{limit, max, min, rate_limiter};
@@ -10,7 +13,7 @@ use crate::quotients::{div, div_sh_left, modulo, mul_div};
 use crate::sums::{abs, abs_diff, add, mul, mul_sh_right, sub};
 use fx_core::{FxInt, Ty};
 use fx_routines::{ArithOp, Variant};
-use num_traits::cast;
+use num_traits::{cast, clamp};
 
 // What a routine is given. Where a type has one of the numbers, the word of that type stands for
 // it.
@@ -64,8 +67,24 @@ pub fn call(op: ArithOp, v: Variant, x: i64, y: i64, z: i64, sh: u8) -> i64
     requires shift { sh ≤ 15 }
     ensures { result ≡ arith_value op v.o x y z sh }
 {
-    let given = Given { x, y, z, shift: sh };
-    at_native!(v.x(), with_first(op, v.y(), v.o(), given))
+    match op {
+        ArithOp::Add => nearest(v.o(), x + y),
+        ArithOp::Sub => nearest(v.o(), x - y),
+        ArithOp::Min => nearest(v.o(), x.min(y)),
+        ArithOp::Max => nearest(v.o(), x.max(y)),
+        _ => {
+            let given = Given { x, y, z, shift: sh };
+            at_native!(v.x(), with_first(op, v.y(), v.o(), given))
+        }
+    }
+}
+
+// The number of the type that is nearest to `number`.
+#[tactic(auto, using(crate::proofs::WholeNumbers::storing))]
+fn nearest(t: Ty, number: i64) -> i64
+    ensures { result ≡ whole_in t number }
+{
+    clamp(number, t.least(), t.greatest())
 }
 
 fn with_first<X: FxInt>(op: ArithOp, y: Ty, o: Ty, given: Given) -> i64
