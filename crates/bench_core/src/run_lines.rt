@@ -27,7 +27,7 @@ pub(crate) fn push_values(text: &mut Vec<u8>, values: &[i64]) -> Result<(), Allo
 {
     let mut digits = Buffer::new();
     for i in 0..values.len() {
-        push_number(text, i, digits.format(values[i]).as_bytes())?;
+        push_piece(text, i, digits.format(values[i]).as_bytes())?;
     }
     text.push(b'\n')?;
     Ok(())
@@ -41,19 +41,6 @@ fn push_piece(text: &mut Vec<u8>, place: usize, piece: &[u8]) -> Result<(), Allo
         text.push(b',')?;
     }
     text.extend_from_slice(piece)
-}
-
-// The same for the few bytes of a number, one by one: a call that copies them costs more.
-fn push_number(text: &mut Vec<u8>, place: usize, number: &[u8]) -> Result<(), AllocError>
-    ensures { OnOk result (text.new.items ≡ text.old.items ++ behind place number.now) }
-{
-    if place > 0 {
-        text.push(b',')?;
-    }
-    for i in 0..number.len() {
-        text.push(number[i])?;
-    }
-    Ok(())
 }
 
 /// The name of a wire; no bytes where there is none.

@@ -12,4 +12,4 @@ loop-i-preserved c =
     let below : c.loop-i.i < length values = omega (arith, c.loop-i-test.true, c.loop-i.auto.i-end) in
     let fits : FitsSigned w64 (get_or values c.loop-i.i (pos 0)) = search rules in
     let step = pieces_step signed_decimal values c.loop-i.i (pos 0) below in
-    c.in_ok-push_number.ensures ∙ ap₂ (λ l p. l ++ behind c.loop-i.i p) c.loop-i.invariant (c.as_bytes.ensures.value ∙ c.format.ensures.text ∙ ap signed_decimal (to_z-of_z w64 (get_or values c.loop-i.i (pos 0)) fits)) ∙ append_assoc old (joined (map signed_decimal (take c.loop-i.i values))) (behind c.loop-i.i _) ∙ ap (λ l. old ++ l) (sym step)
+    c.in_ok-push_piece.ensures ∙ ap₂ (λ l p. l ++ behind c.loop-i.i p) c.loop-i.invariant (c.as_bytes.ensures.value ∙ c.format.ensures.text ∙ ap signed_decimal (to_z-of_z w64 (get_or values c.loop-i.i (pos 0)) fits)) ∙ append_assoc old (joined (map signed_decimal (take c.loop-i.i values))) (behind c.loop-i.i _) ∙ ap (λ l. old ++ l) (sym step)
