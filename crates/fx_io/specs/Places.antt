@@ -1,4 +1,4 @@
--- How far the started file of a shelf in memory was read.
+-- How far the started file of a shelf in memory was read; for what such a shelf keeps and for private functions' clauses.
 use Rattle.std.specs.Prelude.{ℕ, ◌<◌, ◌≤◌, List, [], length, drop, ⊤, Some, None, slice_index_or}
 use Rattle.std.specs.declared.option.Option.{Option}
 use Rattle.fx_io.specs.declared.stock.Place.{Place}

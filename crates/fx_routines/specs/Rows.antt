@@ -1,4 +1,4 @@
--- The rows of the table of names.
+-- The rows of the table of names. `row_at` and `IsAt` are for private functions' clauses alone.
 use Rattle.std.specs.Prelude.{◌≡◌, ℕ, Bool, true, false, List, [], slice_index_or}
 use denote.Enum.Bare.{sameb}
 use Rattle.fx_routines.specs.contracts.operation.ArithOp as arith

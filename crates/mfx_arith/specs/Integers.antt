@@ -1,4 +1,5 @@
--- The values of whole numbers and of their quotients in a type, and what is left by a quotient.
+-- The values of whole numbers and of their quotients in a type, and what is left by a quotient. These are for private
+-- functions' clauses alone.
 use Rattle.std.specs.Prelude.{ℤ, pos, ◌==◌, if◌then◌else◌, unsigned_abs, int_rem, None, Some}
 use Rattle.fx_fraction.specs.Fraction.{divided, whole}
 use Rattle.fx_core.specs.Values.{value_in}

@@ -121,6 +121,7 @@ fn count<W: FxInt>(word: W) -> i64
     cast(word.to_wide()).unwrap()
 }
 
+// The routine at its native types. It answers for each operation, also for those that `call` computes at once.
 #[tactic(auto, unfolding(crate::specs::Calls::arith_value))]
 fn answer<X: FxInt, Y: FxInt, Z: FxInt>(op: ArithOp, given: Given) -> Z
     requires taken { Takes op (types X.TY Y.TY Z.TY) }

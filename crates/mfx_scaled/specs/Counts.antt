@@ -1,4 +1,5 @@
--- Counts at a binary point: the number n at the point p is n over two to the power of p.
+-- Counts at a binary point: the number n at the point p is n over two to the power of p. `count_in` is for private functions'
+-- clauses alone.
 use Rattle.std.specs.Prelude.{ℕ, ◌-◌, ℤ, ◌*ℤ◌, None}
 use Rattle.fx_fraction.specs.Fraction.{whole, times}
 use Rattle.fx_core.specs.Rounding.{power}

@@ -1,4 +1,4 @@
--- Which values are read as outputs.
+-- Which values are read as outputs; for private functions' clauses alone.
 use Rattle.std.specs.Prelude.{ℕ, ◌<◌, List, length, get_or}
 use Rattle.net_model.specs.declared.wires.WireNo.{WireNo}
 

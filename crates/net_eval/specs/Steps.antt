@@ -1,4 +1,5 @@
--- The steps of an evaluator, one for each wire, and the values that they give for one row.
+-- The steps of an evaluator, one for each wire, and the values that they give for one row. These are for what a plan keeps
+-- and for private functions' clauses.
 use Rattle.std.specs.Prelude.{ℕ, zero, suc, ◌<◌, ◌≤◌, ℤ, pos, List, [], ◌∷◌, ◌++◌, length, get_or}
 use Rattle.mfx_arith.specs.Calls.{arith_value}
 use Rattle.mfx_arith.specs.Operations.{Takes, HasArguments}
