@@ -98,7 +98,7 @@ pub small_entry : (wires : List Wire) (entries : List Bounds) → AreAllowed wir
 small_entry wires entries allowed w h =
     small_from_allowed wires entries w (allowed w (rw (length-parts_of wires) h))
 
--- a allowed entry isn't below its wire's kind
+-- an allowed entry isn't below its wire's kind
 low_from_tests : (kind : Kind) (role : Role) (b : Bounds) → is_allowed kind role b ≡ true → kind_least kind ≤ℤ b.lo
 low_from_tests kind Value b h = (are_between kind b h).low
 

@@ -71,7 +71,7 @@ scaled_there net i b op v x y valid h is case =
     let there = argument_there net i (Scaled op v x y) valid h (is ∙ ap OfBlock case) in
     record { first = there 0; second = there 1 }
 
--- a wire has an entry, and a allowed one is small
+-- a wire has an entry, and an allowed one is small
 pub entry_there : (wires : List Wire) (entries : List Bounds) (w : ℕ) → length entries ≡ length (parts_of wires) → w < length wires → w < length entries
 entry_there wires entries w complete h = omega (arith, length-parts_of wires)
 

@@ -2,7 +2,7 @@
 use Rattle.std.specs.Prelude.{◌^◌, Bool, ◌&&◌, pos, negsuc, ◌≤ℤ◌, ◌<ℤ◌, int_le, int_lt, Option, Some, None, if◌then◌else◌}
 use Rattle.cert_rules.specs.declared.bounds.Bounds.{Bounds}
 
--- bounds of a allowed entry, whatever its part: the range isn't empty and lies between the ends of all types, and the
+-- bounds of an allowed entry, whatever its part: the range isn't empty and lies between the ends of all types, and the
 -- error is neither negative nor above the largest cap
 pub record IsSmall (b : Bounds) : Type 0 where
   pub low : negsuc 2147483647 ≤ℤ b.lo
