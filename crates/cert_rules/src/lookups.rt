@@ -11,7 +11,7 @@ use net_model::{Item, Kind, Network, Part, PartNo, WireNo};
 /// The part of a number.
 pub(crate) fn part_numbered(net: &Network, part: PartNo) -> Part
     requires { part.0 < length (parts_of net.now.wires) }
-    ensures part { result ≡ part_at net.now.wires part.0 }
+    ensures part { result ≡ part_at net.now part.0 }
     ensures wire { result.wire.0 < length net.now.wires }
     ensures valid { IsValid net.now }
 {
