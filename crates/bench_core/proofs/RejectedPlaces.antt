@@ -2,7 +2,7 @@
 use Rattle.std.proofs.Common.{◌≡◌, ℕ, zero, suc, ◌+◌, ◌<◌, Bool, true, false, cond, List, length, Option, Some, None, sym, arith}
 use Rattle.net_model.specs.declared.wires.Wire.{Wire}
 use Rattle.net_model.specs.Wires.{parts_of}
-use Rattle.cert_rules.specs.declared.bounds.Bounds.{Bounds}
+use Rattle.part_rules.specs.declared.bounds.Bounds.{Bounds}
 use Rattle.cert_rules.specs.Acceptance.{is_allowed_at, is_inductive_at, first_failing, or_later, first_rejected}
 
 some_same : (a b : ℕ) → ◌≡◌ {A = Option ℕ} (Some a) (Some b) → a ≡ b
