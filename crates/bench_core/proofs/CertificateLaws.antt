@@ -9,7 +9,7 @@ use Rattle.net_model.specs.Wires.{NetData, parts_of}
 use Rattle.net_model.specs.Validity.{IsValid}
 use Rattle.net_model.proofs.ValidityFacts.{length-parts_of, length-valid}
 use Rattle.text_words.specs.Steps.{◌>>=◌, demand}
-use Rattle.cert_rules.specs.declared.bounds.Bounds.{Bounds}
+use Rattle.part_rules.specs.declared.bounds.Bounds.{Bounds}
 use Rattle.cert_rules.specs.Proper.{is_entry_number, is_proper_entry, first_improper}
 use Rattle.bench_core.specs.declared.cert_kind.CertKind.{CertKind}
 use Rattle.bench_core.specs.declared.cert_kind.CertKind.TheVariants.{BadLine, WrongPart, BadNumber, EmptyRange}

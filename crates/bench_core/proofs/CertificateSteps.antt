@@ -6,7 +6,7 @@ use Rattle.text_words.specs.Readers.{read_below}
 use Rattle.text_words.specs.Steps.{◌>>=◌}
 use Rattle.text_words.proofs.ReaderSteps.{read_below-next, read_below-fault, read_below-complete, read_below-incomplete}
 use Rattle.net_model.specs.Wires.{NetData, parts_of}
-use Rattle.cert_rules.specs.declared.bounds.Bounds.{Bounds}
+use Rattle.part_rules.specs.declared.bounds.Bounds.{Bounds}
 use Rattle.bench_core.specs.declared.cert_kind.CertKind.{CertKind}
 use Rattle.bench_core.specs.declared.cert_kind.CertKind.TheVariants.{Missing}
 use Rattle.bench_core.specs.CertificateText.{part_line, certificate_reader}

@@ -4,7 +4,7 @@ use Rattle.std.specs.Prelude.{⊤, codes, ◌&&◌}
 use Rattle.fx_io.specs.Outside.{bytes_of}
 use Rattle.net_model.specs.declared.wires.Wire.{Wire}
 use Rattle.net_model.specs.Wires.{NetData}
-use Rattle.cert_rules.specs.declared.bounds.Bounds.{Bounds}
+use Rattle.part_rules.specs.declared.bounds.Bounds.{Bounds}
 use Rattle.cert_rules.specs.Acceptance.{first_rejected}
 use Rattle.cert_rules.proofs.AcceptanceLaws.{accepts_from_none_rejected, all_are_smooth}
 use Rattle.cert_rules.proofs.TheoremProof.{certificates_hold}

@@ -1,7 +1,7 @@
 -- The part that is rejected is one of the network's.
 use Rattle.std.proofs.Common.{◌≡◌, ℕ, zero, suc, ◌+◌, ◌<◌, Bool, true, false, cond, List, length, Option, Some, None, sym, arith}
 use Rattle.net_model.specs.Wires.{NetData, parts_of}
-use Rattle.cert_rules.specs.declared.bounds.Bounds.{Bounds}
+use Rattle.part_rules.specs.declared.bounds.Bounds.{Bounds}
 use Rattle.cert_rules.specs.Acceptance.{is_allowed_at, is_inductive_at, first_failing, or_later, first_rejected}
 
 some_same : (a b : ℕ) → ◌≡◌ {A = Option ℕ} (Some a) (Some b) → a ≡ b

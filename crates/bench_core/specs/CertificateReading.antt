@@ -1,6 +1,6 @@
 -- What reading a certificate's text gives.
 use Rattle.std.specs.Prelude.{◌≡◌, ℕ, List, Result, Ok, Err}
-use Rattle.cert_rules.specs.declared.bounds.Bounds.{Bounds}
+use Rattle.part_rules.specs.declared.bounds.Bounds.{Bounds}
 use Rattle.bench_core.specs.declared.cert_kind.CertFault.{CertFault}
 use Rattle.bench_core.specs.declared.cert_kind.CertError.{CertError}
 use Rattle.bench_core.specs.declared.cert_kind.CertError.TheVariants.{Fault, OutOfMemory}

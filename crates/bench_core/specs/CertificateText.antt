@@ -6,7 +6,7 @@ use Rattle.text_words.specs.Readers.{Reader, said_by}
 use Rattle.text_words.specs.Numbers.{number_of}
 use Rattle.net_model.specs.Wires.{NetData, parts_of}
 use Rattle.text_words.specs.Steps.{◌>>=◌, demand}
-use Rattle.cert_rules.specs.declared.bounds.Bounds.{Bounds}
+use Rattle.part_rules.specs.declared.bounds.Bounds.{Bounds}
 use Rattle.bench_core.specs.declared.cert_kind.CertKind.{CertKind}
 use Rattle.bench_core.specs.declared.cert_kind.CertKind.TheVariants.{NoHead, BadLine, WrongPart, BadNumber, EmptyRange, Missing}
 use Rattle.bench_core.specs.declared.cert_kind.CertFault.{CertFault}

@@ -1,7 +1,7 @@
 -- What `check NET CERT` does, in the order of its refusals.
 use Rattle.std.specs.Prelude.{ℕ, List, [], ◌∷◌, ◌++◌, Option, Some, None, Result, Ok, Err, codes, ⊤}
 use Rattle.net_model.specs.Wires.{NetData}
-use Rattle.cert_rules.specs.declared.bounds.Bounds.{Bounds}
+use Rattle.part_rules.specs.declared.bounds.Bounds.{Bounds}
 use Rattle.cert_rules.specs.Acceptance.{first_rejected}
 use Rattle.bench_core.specs.PartNames.{part_name}
 use Rattle.bench_core.specs.CertificateText.{certificate_of}

@@ -5,7 +5,7 @@ use Rattle.net_text.specs.Text.{network_of}
 use Rattle.net_meaning.specs.Cells.{Cell}
 use Rattle.net_meaning.specs.Blocks.{machine}
 use Rattle.net_meaning.specs.Runs.{IsRun}
-use Rattle.cert_rules.specs.declared.bounds.Bounds.{Bounds}
+use Rattle.part_rules.specs.declared.bounds.Bounds.{Bounds}
 use Rattle.cert_rules.specs.Acceptance.{Accepts}
 use Rattle.cert_rules.specs.Theorem.{CertificateHolds}
 use Rattle.rec_csv.specs.Recordings.{recording_of}

@@ -15,7 +15,7 @@ use Rattle.net_model.specs.Validity.{IsValid}
 use Rattle.net_model.specs.Smooth.{is_smooth, IsSmooth}
 use Rattle.net_model.proofs.ValidityFacts.{arith-valid}
 use Rattle.mfx_arith.specs.Operations.{is_smooth_operation}
-use Rattle.cert_rules.specs.declared.bounds.Bounds.{Bounds}
+use Rattle.part_rules.specs.declared.bounds.Bounds.{Bounds}
 use Rattle.cert_rules.specs.Acceptance.{Accepts, is_allowed_at, is_inductive_at, first_failing, or_later, first_rejected}
 use Rattle.cert_rules.specs.Theorem.{AcceptsExactly, AllAreSmooth}
 

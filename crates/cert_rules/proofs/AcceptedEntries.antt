@@ -8,8 +8,9 @@ use Rattle.fx_fraction.proofs.WholeNumbers.{int_le-true, int_le_trans}
 use Rattle.net_model.specs.declared.wires.Role.TheVariants.{Value}
 use Rattle.net_model.specs.Wires.{NetData, wire_at, parts_of, place_in, kind_least, kind_greatest}
 use Rattle.net_model.proofs.ValidityFacts.{has_role-value}
-use Rattle.cert_rules.specs.declared.bounds.Bounds.{Bounds}
-use Rattle.cert_rules.specs.Certificates.{IsWithin, entry_of, no_bounds}
+use Rattle.part_rules.specs.declared.bounds.Bounds.{Bounds}
+use Rattle.part_rules.specs.Within.{IsWithin, no_bounds}
+use Rattle.cert_rules.specs.Certificates.{entry_of}
 use Rattle.cert_rules.specs.Rules.{rule_of}
 use Rattle.cert_rules.specs.Acceptance.{Accepts, is_inductive_at, is_inductive_entry, lies_inside, starts_inside, start_of}
 use Rattle.cert_rules.proofs.EntryFacts.{are_between}

@@ -19,9 +19,9 @@ use Rattle.net_meaning.specs.Blocks.{points_of}
 use Rattle.fx_core.specs.Arguments.{three, two}
 use Rattle.mfx_arith.specs.Operations.{arith_arity, is_smooth_operation}
 use Rattle.mfx_scaled.specs.Operations.{scaled_arity}
-use Rattle.cert_rules.specs.declared.bounds.Bounds.{Bounds}
-use Rattle.cert_rules.specs.ArithRules.{arith_bounds, arith_may_divide_by_zero, arith_values}
-use Rattle.cert_rules.specs.ScaledRules.{scaled_bounds, scaled_may_divide_by_zero, scaled_values}
+use Rattle.part_rules.specs.declared.bounds.Bounds.{Bounds}
+use Rattle.mfx_rules.specs.ArithRules.{arith_bounds, arith_may_divide_by_zero, arith_values}
+use Rattle.mfx_rules.specs.ScaledRules.{scaled_bounds, scaled_may_divide_by_zero, scaled_values}
 use Rattle.cert_rules.specs.Rules.{allowed_of, arguments_of, has_no_rule, proposed, rule_of}
 use Rattle.cert_rules.specs.Acceptance.{part_at}
 use Rattle.cert_rules.specs.Arguments.{AgreeFor, RulesReadTheirArguments, arity_of}

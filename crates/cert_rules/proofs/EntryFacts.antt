@@ -14,11 +14,12 @@ use Rattle.net_model.specs.declared.wires.Part.{Part}
 use Rattle.net_model.specs.Wires.{NetData, wire_at, kind_least, kind_greatest, point_of, parts_of}
 use Rattle.net_model.specs.Validity.{IsValid}
 use Rattle.net_model.proofs.ValidityFacts.{get_or-parts_of, length-parts_of, place_in-parts_of, point_of-valid}
-use Rattle.cert_rules.specs.declared.bounds.Bounds.{Bounds}
-use Rattle.cert_rules.specs.Certificates.{no_bounds, entry_of}
+use Rattle.part_rules.specs.declared.bounds.Bounds.{Bounds}
+use Rattle.part_rules.specs.Within.{no_bounds}
+use Rattle.cert_rules.specs.Certificates.{entry_of}
 use Rattle.cert_rules.specs.Rules.{is_allowed, is_between_ends, part_least, part_greatest}
 use Rattle.cert_rules.specs.Acceptance.{AreAllowed, is_allowed_at, part_at, entry_at}
-use Rattle.cert_rules.specs.Entries.{IsSmall}
+use Rattle.part_rules.specs.Entries.{IsSmall}
 
 -- ---- the entry of a wire's value has the wire's number
 

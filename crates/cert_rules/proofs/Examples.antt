@@ -11,10 +11,11 @@ use Rattle.net_model.specs.declared.wires.Block.TheVariants.{Arith, Scaled}
 use Rattle.net_model.specs.declared.wires.Item.TheVariants.{Input, Block as OfBlock}
 use Rattle.net_model.specs.Wires.{NetData}
 use Rattle.mfx_scaled.specs.Formulas.{point_factor}
-use Rattle.cert_rules.specs.declared.bounds.Bounds.{Bounds}
+use Rattle.part_rules.specs.declared.bounds.Bounds.{Bounds}
 use Rattle.cert_rules.specs.Certificates.{entry_of}
-use Rattle.cert_rules.specs.ArithRules.{arith_bounds, arith_values, product_error, quotient_error, shifted_error}
-use Rattle.cert_rules.specs.ScaledRules.{scaled_bounds, scaled_values}
+use Rattle.mfx_rules.specs.ArithRules.{arith_bounds, arith_values}
+use Rattle.part_rules.specs.Errors.{product_error, quotient_error, shifted_error}
+use Rattle.mfx_rules.specs.ScaledRules.{scaled_bounds, scaled_values}
 use Rattle.cert_rules.specs.Rules.{proposed, rule_of, is_allowed}
 use Rattle.cert_rules.specs.Acceptance.{is_allowed_at, is_inductive_at, first_failing, first_rejected}
 

@@ -21,15 +21,15 @@ use Rattle.net_model.specs.Validity.{IsValid}
 use Rattle.net_meaning.specs.Blocks.{points_of}
 use Rattle.fx_core.specs.Arguments.{three, two}
 use Rattle.mfx_arith.specs.Operations.{is_smooth_operation}
-use Rattle.cert_rules.specs.declared.bounds.Bounds.{Bounds}
+use Rattle.part_rules.specs.declared.bounds.Bounds.{Bounds}
 use Rattle.cert_rules.specs.Certificates.{entry_of}
 use Rattle.cert_rules.specs.Rules.{allowed_of, arguments_of, bounds_of, is_allowed, proposed, rule_of}
-use Rattle.cert_rules.specs.ScaledRules.{scaled_bounds, scaled_may_divide_by_zero}
-use Rattle.cert_rules.specs.ArithRules.{arith_bounds, arith_may_divide_by_zero}
+use Rattle.mfx_rules.specs.ScaledRules.{scaled_bounds, scaled_may_divide_by_zero}
+use Rattle.mfx_rules.specs.ArithRules.{arith_bounds, arith_may_divide_by_zero}
 use Rattle.cert_rules.specs.Acceptance.{AreAllowed, entry_at}
-use Rattle.cert_rules.specs.Entries.{IsSmall, if_small, is_small}
-use Rattle.cert_rules.proofs.ScaledArguments.{form_bounds_of_two, form_divisor_of_two, proper_form_bounds}
-use Rattle.cert_rules.proofs.ArithArguments.{bounds_of_three, divisor_of_three, proper_bounds}
+use Rattle.part_rules.specs.Entries.{IsSmall, if_small, is_small}
+use Rattle.mfx_rules.proofs.ScaledArguments.{form_bounds_of_two, form_divisor_of_two, proper_form_bounds}
+use Rattle.mfx_rules.proofs.ArithArguments.{bounds_of_three, divisor_of_three, proper_bounds}
 use Rattle.cert_rules.proofs.UnsignedSteps.{unsigned_step}
 use Rattle.cert_rules.proofs.AcceptanceLaws.{ruled_if_built}
 use Rattle.net_model.proofs.BuiltFacts.{shift_from_test}

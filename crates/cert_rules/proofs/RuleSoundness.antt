@@ -2,9 +2,7 @@
 -- proposes. Where these lie between the ends of its kind, saturation leaves it alone.
 use Rattle.std.specs.Prelude.{◌≡◌, ℕ, ◌<◌, Bool, true, false, not, ◌||◌, List, [], get_or, ℤ, pos, ◌≤ℤ◌, Option, Some, None}
 use Rattle.std.proofs.Common.{refl, true≢false}
-use Rattle.fx_fraction.specs.Fraction.{Fraction, whole, over, distance, AtMost, Same}
-use Rattle.fx_fraction.proofs.Order.{AtMost_trans, AtMost_of-Same}
-use Rattle.fx_fraction.proofs.Distances.{distance_self}
+use Rattle.fx_fraction.specs.Fraction.{Fraction, whole}
 use Rattle.fx_fraction.proofs.WholeNumbers.{int_le_refl}
 use Rattle.fx_core.specs.declared.quotient.Mode.TheVariants.{Zero}
 use Rattle.fx_core.specs.Values.{Divides, rounded_fraction, unsaturated}
@@ -28,16 +26,17 @@ use Rattle.net_meaning.specs.Cells.{Cell, wire_values}
 use Rattle.net_meaning.specs.Blocks.{as_fractions, exact, exact_cell, formula, machine, machine_cell, machine_state_of, points_of, quotient_of, state_formula, state_greatest, state_least}
 use Rattle.net_meaning.specs.Runs.{equation_of}
 use Rattle.net_meaning.specs.Promises.{ItemDivides, KeepsRange}
-use Rattle.cert_rules.specs.declared.bounds.Bounds.{Bounds}
+use Rattle.part_rules.specs.declared.bounds.Bounds.{Bounds}
 use Rattle.cert_rules.specs.Arguments.{arity_of}
-use Rattle.cert_rules.specs.Certificates.{IsWithin}
-use Rattle.cert_rules.specs.ArithRules.{arith_bounds, arith_may_divide_by_zero}
-use Rattle.cert_rules.specs.ArithSoundness.{HasUnsignedStep, KeepsRule}
-use Rattle.cert_rules.specs.ScaledRules.{scaled_bounds}
-use Rattle.cert_rules.specs.ScaledSoundness.{FormKeepsRule}
+use Rattle.part_rules.specs.Within.{IsWithin}
+use Rattle.part_rules.proofs.Within.{itself_within}
+use Rattle.mfx_rules.specs.ArithRules.{arith_bounds, arith_may_divide_by_zero}
+use Rattle.mfx_rules.specs.ArithSoundness.{HasUnsignedStep, KeepsRule}
+use Rattle.mfx_rules.specs.ScaledRules.{scaled_bounds}
+use Rattle.mfx_rules.specs.ScaledSoundness.{FormKeepsRule}
 use Rattle.cert_rules.specs.Rules.{arguments_of, proposed, block_has_no_rule, has_no_rule}
-use Rattle.cert_rules.proofs.ArithSoundnessProof.{arith_rules_are_sound}
-use Rattle.cert_rules.proofs.ScaledSoundnessProof.{scaled_rules_are_sound}
+use Rattle.mfx_rules.proofs.ArithSoundnessProof.{arith_rules_are_sound}
+use Rattle.mfx_rules.proofs.ScaledSoundnessProof.{scaled_rules_are_sound}
 
 -- what is sound about bounds, a cell of the machine and the exact cell
 pub record IsSound (net : NetData) (w : Wire) (item : Item) (b : Bounds) (m : ℕ → ℕ → Cell ℤ) (e : ℕ → ℕ → Cell Fraction) (cell : Cell ℤ) (exactly : Cell Fraction) : Type 0 where
@@ -46,13 +45,6 @@ pub record IsSound (net : NetData) (w : Wire) (item : Item) (b : Bounds) (m : �
   pub within : IsWithin b cell.value_unsaturated exactly.value
 
 -- ---- whole numbers
-
-nothing : Same (whole (pos 0)) (over (pos 0) 65536)
-unfolding whole over
-nothing = refl
-
-pub itself_within : (v : ℤ) → AtMost (distance (whole v) (whole v)) (over (pos 0) 65536)
-itself_within v = AtMost_trans (distance (whole v) (whole v)) (whole (pos 0)) (over (pos 0) 65536) (AtMost_of-Same (distance (whole v) (whole v)) (whole (pos 0)) (distance_self (whole v))) (AtMost_of-Same (whole (pos 0)) (over (pos 0) 65536) nothing)
 
 plain_within : (lo hi v : ℤ) → lo ≤ℤ v → v ≤ℤ hi → IsWithin (record { lo = lo; hi = hi; err = pos 0 }) v (whole v)
 plain_within lo hi v p q = record { low = p; high = q; near = itself_within v }

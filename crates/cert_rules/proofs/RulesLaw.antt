@@ -14,8 +14,9 @@ use Rattle.net_meaning.specs.Cells.{Cell}
 use Rattle.net_meaning.specs.Blocks.{machine, exact}
 use Rattle.net_meaning.specs.Runs.{equation}
 use Rattle.net_meaning.specs.Promises.{KeepsRange}
-use Rattle.cert_rules.specs.declared.bounds.Bounds.{Bounds}
-use Rattle.cert_rules.specs.Certificates.{IsWithin, entry_of, held_by}
+use Rattle.part_rules.specs.declared.bounds.Bounds.{Bounds}
+use Rattle.part_rules.specs.Within.{IsWithin}
+use Rattle.cert_rules.specs.Certificates.{entry_of, held_by}
 use Rattle.cert_rules.specs.Rules.{allowed_of, has_no_rule, is_allowed, proposed, rule_of}
 use Rattle.cert_rules.specs.Acceptance.{AreAllowed, entry_at, part_at}
 use Rattle.cert_rules.specs.Arguments.{arity_of}

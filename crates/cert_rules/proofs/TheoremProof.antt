@@ -18,8 +18,9 @@ use Rattle.net_meaning.proofs.Arguments.{ArgumentsEarlier, arguments_earlier}
 use Rattle.net_meaning.proofs.Equations.{by_smaller}
 use Rattle.net_meaning.proofs.OneRun.{runs_agree}
 use Rattle.net_meaning.proofs.TableRun.{table_is_run}
-use Rattle.cert_rules.specs.declared.bounds.Bounds.{Bounds}
-use Rattle.cert_rules.specs.Certificates.{IsWithin, entry_of, held_by}
+use Rattle.part_rules.specs.declared.bounds.Bounds.{Bounds}
+use Rattle.part_rules.specs.Within.{IsWithin}
+use Rattle.cert_rules.specs.Certificates.{entry_of, held_by}
 use Rattle.cert_rules.specs.Acceptance.{Accepts, entry_at}
 use Rattle.cert_rules.specs.Soundness.{IsGiven}
 use Rattle.cert_rules.specs.Theorem.{CertificatesHold}

@@ -17,10 +17,10 @@ use Rattle.net_model.specs.Wires.{NetData, wire_at, kind_least}
 use Rattle.net_model.specs.Validity.{IsValid}
 use Rattle.net_model.proofs.ValidityFacts.{arith-valid, number_kind}
 use Rattle.cert_rules.specs.Acceptance.{AreAllowed}
-use Rattle.cert_rules.specs.declared.bounds.Bounds.{Bounds}
+use Rattle.part_rules.specs.declared.bounds.Bounds.{Bounds}
 use Rattle.cert_rules.specs.Certificates.{entry_of}
 use Rattle.cert_rules.specs.Rules.{arguments_of}
-use Rattle.cert_rules.specs.ArithSoundness.{HasUnsignedStep}
+use Rattle.mfx_rules.specs.ArithSoundness.{HasUnsignedStep}
 use Rattle.cert_rules.proofs.EntryFacts.{entry_low}
 use Rattle.cert_rules.proofs.RuleSoundness.{ItemHasUnsignedStep}
 

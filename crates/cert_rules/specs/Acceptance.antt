@@ -7,8 +7,9 @@ use Rattle.net_model.specs.declared.wires.Role.TheVariants.{Value}
 use Rattle.net_model.specs.declared.wires.Part.{Part}
 use Rattle.net_model.specs.Wires.{NetData, wire_at, parts_of, no_part}
 use Rattle.net_model.specs.Smooth.{IsSmooth}
-use Rattle.cert_rules.specs.declared.bounds.Bounds.{Bounds}
-use Rattle.cert_rules.specs.Certificates.{no_bounds, entry_of}
+use Rattle.part_rules.specs.declared.bounds.Bounds.{Bounds}
+use Rattle.part_rules.specs.Within.{no_bounds}
+use Rattle.cert_rules.specs.Certificates.{entry_of}
 use Rattle.cert_rules.specs.Rules.{is_allowed, rule_of}
 
 -- an entry is allowed: its bounds are allowed for the part, its range isn't empty and its error isn't negative

@@ -12,7 +12,7 @@ use Rattle.net_model.specs.Wires.{NetData, wire_at, argument_of, parts_of, same_
 use Rattle.net_model.specs.Validity.{IsValid}
 use Rattle.mfx_arith.specs.Operations.{arith_arity}
 use Rattle.mfx_scaled.specs.Operations.{scaled_arity}
-use Rattle.cert_rules.specs.declared.bounds.Bounds.{Bounds}
+use Rattle.part_rules.specs.declared.bounds.Bounds.{Bounds}
 use Rattle.cert_rules.specs.Rules.{rule_of}
 use Rattle.cert_rules.specs.Acceptance.{part_at}
 

@@ -10,9 +10,9 @@ use Rattle.net_model.specs.declared.wires.Role.TheVariants.{Value}
 use Rattle.net_model.specs.Wires.{NetData, wire_at, kind_least, kind_greatest, argument_of}
 use Rattle.net_meaning.specs.Blocks.{points_of}
 use Rattle.mfx_arith.specs.Operations.{is_smooth_operation}
-use Rattle.cert_rules.specs.declared.bounds.Bounds.{Bounds}
-use Rattle.cert_rules.specs.ArithRules.{arith_may_divide_by_zero, arith_bounds}
-use Rattle.cert_rules.specs.ScaledRules.{scaled_may_divide_by_zero, scaled_bounds}
+use Rattle.part_rules.specs.declared.bounds.Bounds.{Bounds}
+use Rattle.mfx_rules.specs.ArithRules.{arith_may_divide_by_zero, arith_bounds}
+use Rattle.mfx_rules.specs.ScaledRules.{scaled_may_divide_by_zero, scaled_bounds}
 
 -- the bounds of a block's arguments, by their number, where `known` has those of each wire
 abbrev pub arguments_of : Block → (ℕ → Bounds) → ℕ → Bounds

@@ -12,8 +12,9 @@ use Rattle.net_meaning.specs.Cells.{Cell, wire_values}
 use Rattle.net_meaning.specs.Blocks.{machine, exact, as_fractions}
 use Rattle.net_meaning.specs.Runs.{equation}
 use Rattle.net_meaning.specs.Promises.{KeepsRange, ItemDivides}
-use Rattle.cert_rules.specs.declared.bounds.Bounds.{Bounds}
-use Rattle.cert_rules.specs.Certificates.{IsWithin, entry_of, held_by}
+use Rattle.part_rules.specs.declared.bounds.Bounds.{Bounds}
+use Rattle.part_rules.specs.Within.{IsWithin}
+use Rattle.cert_rules.specs.Certificates.{entry_of, held_by}
 use Rattle.cert_rules.specs.Acceptance.{AreAllowed, entry_at, part_at}
 use Rattle.cert_rules.specs.Arguments.{reads_ago, rule_by}
 

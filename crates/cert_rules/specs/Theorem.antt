@@ -5,7 +5,7 @@ use Rattle.net_model.specs.Validity.{IsValid}
 use Rattle.net_model.specs.Smooth.{IsSmooth}
 use Rattle.net_meaning.specs.Runs.{AreRuns, Tables}
 use Rattle.net_meaning.specs.Promises.{Keeps, Fits}
-use Rattle.cert_rules.specs.declared.bounds.Bounds.{Bounds}
+use Rattle.part_rules.specs.declared.bounds.Bounds.{Bounds}
 use Rattle.cert_rules.specs.Certificates.{Within}
 use Rattle.cert_rules.specs.Acceptance.{Accepts, first_rejected}
 

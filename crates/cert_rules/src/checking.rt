@@ -4,7 +4,7 @@ ghost use Rattle.std.specs.Prelude.{◌≡◌, ◌<◌, ◌&&◌, None, int_le, 
 ghost use Rattle.net_model.specs.Wires.{parts_of};
 ghost use Rattle.cert_rules.specs.Acceptance.{AreAllowed, first_failing, first_rejected, is_inductive_at, is_allowed_at};
 
-use crate::bounds::Bounds;
+use part_rules::Bounds;
 use crate::limits::allowed;
 use crate::ruling::rule;
 use net_model::{Network, PartNo};

@@ -5,7 +5,7 @@ ghost use Rattle.net_model.specs.Wires.{parts_of, wire_at};
 ghost use Rattle.cert_rules.specs.Rules.{is_allowed, part_greatest, part_least};
 ghost use Rattle.cert_rules.specs.Acceptance.{part_at};
 
-use crate::bounds::Bounds;
+use part_rules::Bounds;
 use crate::lookups::{kind_at, part_numbered};
 use net_model::{Kind, Network, PartNo, Role};
 

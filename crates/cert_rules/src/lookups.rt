@@ -5,7 +5,7 @@ ghost use Rattle.net_model.specs.Wires.{parts_of, point_of, wire_at};
 ghost use Rattle.net_model.specs.Validity.{IsValid};
 ghost use Rattle.cert_rules.specs.Acceptance.{entry_at, part_at};
 
-use crate::bounds::Bounds;
+use part_rules::Bounds;
 use net_model::{Item, Kind, Network, Part, PartNo, WireNo};
 
 /// The part of a number.

@@ -7,10 +7,10 @@ ghost use Rattle.cert_rules.specs.Certificates.{entry_of};
 ghost use Rattle.cert_rules.specs.Rules.{allowed_of, bounds_of, rule_of};
 ghost use Rattle.cert_rules.specs.Acceptance.{AreAllowed, part_at};
 
-use crate::bounds::Bounds;
+use part_rules::Bounds;
 use crate::limits::is_within_limits;
 use crate::lookups::{item_at, kind_at, part_numbered, point_at, value_entry};
-use crate::narrowing::{form_bounds, operation_bounds};
+use mfx_rules::{form_bounds, operation_bounds};
 use mfx_scaled::Points;
 use net_model::{Block, Item, Network, PartNo, Role, WireNo};
 

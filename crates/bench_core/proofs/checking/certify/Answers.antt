@@ -1,5 +1,5 @@
 use Rattle.std.proofs.Common.{[], List}
-use Rattle.cert_rules.specs.declared.bounds.Bounds.{Bounds}
+use Rattle.part_rules.specs.declared.bounds.Bounds.{Bounds}
 use Rattle.bench_core.specs.Calls.{sink_call}
 use Rattle.bench_core.specs.CheckAnswer.{certificate_in, check_bytes, check_entries}
 use Rattle.bench_core.proofs.EndingLaws.{cause_inside, goes_inside, stops_inside}

@@ -1,0 +1,17 @@
+pub mod ArithExamples
+pub mod ScaledExamples
+pub mod ArithValues
+pub mod ArithCornerValues
+pub mod ArithCornerHulls
+pub mod ArithDivisorEnds
+pub mod ArithRoutines
+pub mod ArithSoundnessProof
+pub mod ArithArguments
+pub mod ScaledSizes
+pub mod ScaledDistances
+pub mod ScaledQuotients
+pub mod ScaledRoutines
+pub mod ScaledSoundnessProof
+pub mod ScaledArguments
+pub mod ScaledCornerHulls
+pub mod ScaledCornerValues

@@ -1,0 +1,6 @@
+pub mod ArithRules
+pub mod ArithSoundness
+pub mod ScaledRules
+pub mod ScaledSoundness
+pub mod ArithCorners
+pub mod ScaledCorners

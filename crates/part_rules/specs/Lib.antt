@@ -1,0 +1,6 @@
+pub mod Units
+pub mod Within
+pub mod Entries
+pub mod Ranges
+pub mod Errors
+pub mod WideBounds
