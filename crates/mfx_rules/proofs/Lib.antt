@@ -15,3 +15,4 @@ pub mod ScaledSoundnessProof
 pub mod ScaledArguments
 pub mod ScaledCornerHulls
 pub mod ScaledCornerValues
+pub mod SoundRules

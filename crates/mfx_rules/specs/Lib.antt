@@ -4,3 +4,4 @@ pub mod ScaledRules
 pub mod ScaledSoundness
 pub mod ArithCorners
 pub mod ScaledCorners
+pub mod OperationRules

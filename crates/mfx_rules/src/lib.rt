@@ -8,6 +8,7 @@ mod arith_ranges;
 mod arith_ruling;
 mod arith_values;
 mod narrowing;
+mod rule_laws;
 mod scaled_counts;
 mod scaled_errors;
 mod scaled_laws;
@@ -17,4 +18,5 @@ mod scaled_values;
 
 pub use arith_laws::law_of_arith_rules;
 pub use narrowing::{form_bounds, operation_bounds};
+pub use rule_laws::{law_of_arithmetic, law_of_forms};
 pub use scaled_laws::law_of_scaled_rules;

@@ -11,3 +11,4 @@ pub mod DivisorEnds
 pub mod Sizes
 pub mod MagnitudeWords
 pub mod WordSteps
+pub mod RuleLaws

@@ -4,3 +4,4 @@ pub mod Entries
 pub mod Ranges
 pub mod Errors
 pub mod WideBounds
+pub mod PartRules

@@ -5,6 +5,7 @@
 mod bounds;
 mod errors;
 mod ranges;
+mod rule_laws;
 mod whole_numbers;
 mod wide_bounds;
 
@@ -14,5 +15,6 @@ pub use errors::{
     shifted_error, shifted_quotient_error, sum_error,
 };
 pub use ranges::{Range, ends, high_end, low_end};
+pub use rule_laws::law_of_reading;
 pub use whole_numbers::{Whole, greater, lesser, power_of_two};
 pub use wide_bounds::{WideBounds, narrowed};
