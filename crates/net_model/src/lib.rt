@@ -13,7 +13,7 @@ mod smoothness;
 mod wires;
 
 pub use built::{ArgumentTypes, GREATEST_SHIFT, argument_types, has_shift, is_built, scaled_types};
-pub use conditions::{agrees, kind_holds};
+pub use conditions::{Arguments, agrees, arguments_of, kind_holds, types_read};
 pub use draft_checks::{MOST_WIRES, has_ends, is_range};
 pub use laws::law_of_drafts;
 pub use naming::{Name, NameFault};
