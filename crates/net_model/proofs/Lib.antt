@@ -5,3 +5,5 @@ pub mod BuiltFacts
 pub mod ValidityFacts
 pub mod TestedDrafts
 pub mod HeldKinds
+pub mod FormTypes
+pub mod FormInverses
