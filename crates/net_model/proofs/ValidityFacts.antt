@@ -11,6 +11,7 @@ use Rattle.fx_core.specs.declared.word_type.Ty.{Ty}
 use Rattle.fx_routines.specs.declared.operation.ArithOp.{ArithOp}
 use Rattle.fx_routines.specs.declared.operation.ArithOp.TheVariants.{Abs, MulDiv, Limit, Min, Max, RateLimiter}
 use Rattle.fx_routines.specs.declared.operation.Variant.{Variant}
+use Rattle.fx_routines.specs.declared.table.Routine.TheVariants as routine
 use Rattle.mfx_arith.specs.Operations.{Takes, argument_types}
 use Rattle.mfx_arith.proofs.TypesTaken.{taken}
 use Rattle.fx_routines.specs.declared.operation.ScaledOp.{ScaledOp}
@@ -179,7 +180,7 @@ argument_earlier net i first None a h g = below_along _ _ _ g h
 -- a block of Mfx arithmetic: its operation is built and takes its types, its arguments are good and earlier net, and
 -- its count of places is one of the operation
 pub record IsGoodArith (net : NetData) (i : ℕ) (kind : Kind) (op : ArithOp) (v : Variant) (x y z : WireNo) (sh : ℕ) : Type 0 where
-  pub built : is_built op ≡ true
+  pub built : is_built (routine.Arith op) ≡ true
   pub taken : Takes op v
   pub first : IsGoodArgument net i x (slice_get (argument_types op v) 0) x
   pub second : IsGoodArgument net i x (slice_get (argument_types op v) 1) y
