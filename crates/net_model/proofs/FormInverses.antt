@@ -1,5 +1,5 @@
 -- A block is the block of its form, and the form of a form's block is that form.
-use Rattle.std.proofs.Common.{◌≡◌, ℕ, zero, ◌+◌, ◌<◌, ◌≤◌, Bool, true, false, ◌&&◌, ◌==◌, eqb, int_le, List, [], ◌∷◌, suc, map, length, take, drop, get_or, ℤ, pos, negsuc, unsigned_abs, refl, sym, ap, ap₂, ◌∙◌, arith, eqb-true, true≢false, eq-eqb}
+use Rattle.std.proofs.Common.{◌≡◌, ℕ, zero, ◌+◌, ◌<◌, ◌≤◌, Bool, true, false, ◌&&◌, ◌==◌, int_le, List, [], ◌∷◌, suc, map, length, take, drop, get_or, ℤ, pos, negsuc, unsigned_abs, refl, sym, ap, ap₂, ◌∙◌, arith, eqb-true, true≢false, eq-eqb}
 use Rattle.std.specs.List.{list_all}
 use Rattle.std.specs.Ordering.{int_eq}
 use Rattle.std.proofs.lemmas.Bool.{and_parts, and_from}
@@ -18,8 +18,10 @@ use Rattle.net_model.specs.declared.wires.Block.{Block}
 use Rattle.net_model.specs.declared.wires.Block.TheVariants.{Arith, Scaled}
 use Rattle.net_model.specs.declared.signatures.Sort.TheVariants.{Number}
 use Rattle.net_model.specs.declared.block_forms.Form.{Form}
+use Rattle.net_model.specs.Built.{is_built}
 use Rattle.net_model.specs.Signatures.{signature_of, arith_ranges}
-use Rattle.net_model.specs.BlockForms.{both, in_range, in_ranges, held_by, signature_in, form_of, first_of, spare_wires, spare_numbers, repeats_first, adds_no_number, wire_or_first, number_or_zero, block_of, is_built_routine}
+use Rattle.net_model.specs.BlockForms.{in_range, in_ranges, held_by, signature_in, form_of, first_of, repeats_first, adds_no_number, wire_or_first, number_or_zero, block_of}
+use Rattle.net_model.proofs.SideBySide.{same_lengths}
 
 -- ---- a block, from its form
 
@@ -91,16 +93,9 @@ rest_filled same f d (x ∷ xs) k (suc m) h is =
 from_zero : {A : Type 0} (f : ℕ → A) (p : ℕ) → f (0 + p) ≡ f p
 from_zero f p = let e : 0 + p ≡ p = omega arith in ap f e
 
--- there are as many of both
-pub same_lengths : {A B : Type 0} (test : A → B → Bool) (xs : List A) (ys : List B) → both test xs ys ≡ true → length xs ≡ length ys
-same_lengths test [] [] h = refl
-same_lengths test (x ∷ xs) [] h = absurd (cc)
-same_lengths test [] (y ∷ ys) h = absurd (cc)
-same_lengths test (x ∷ xs) (y ∷ ys) h = ap suc (same_lengths test xs ys (and_parts (test x y) (both test xs ys) h).1)
-
 -- what a form of a built routine keeps
 pub record IsFull (form : Form) : Type 0 where
-  pub built : is_built_routine form.routine ≡ true
+  pub built : is_built form.routine ≡ true
   pub wires : length (signature_in form).sorts ≡ length form.wires
   pub numbers : in_ranges (signature_in form).ranges form.numbers ≡ true
 

@@ -12,13 +12,7 @@ use Rattle.net_model.specs.declared.wires.Block.TheVariants.{Arith, Scaled}
 use Rattle.net_model.specs.declared.signatures.Range.{Range}
 use Rattle.net_model.specs.declared.signatures.Signature.{Signature}
 use Rattle.net_model.specs.declared.block_forms.Form.{Form}
-use Rattle.net_model.specs.Built.{is_built}
 use Rattle.net_model.specs.Signatures.{signature_of}
-
-abbrev pub is_built_routine : Routine → Bool
-is_built_routine (NamedArith op) = is_built op
-is_built_routine (NamedScaled op) = true
-is_built_routine other = false
 
 -- ---- lists side by side
 

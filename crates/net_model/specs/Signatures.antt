@@ -8,7 +8,7 @@ use Rattle.fx_routines.specs.declared.table.Routine.{Routine}
 use Rattle.fx_routines.specs.declared.table.Routine.TheVariants.{Arith, Scaled}
 use Rattle.mfx_arith.specs.Operations.{argument_types, is_smooth_operation}
 use Rattle.mfx_scaled.specs.Operations.{argument_types as scaled_types}
-use Rattle.net_model.specs.declared.signatures.Sort.{Sort}
+use Rattle.net_model.specs.Built.{most_shift}
 use Rattle.net_model.specs.declared.signatures.Sort.TheVariants.{Number}
 use Rattle.net_model.specs.declared.signatures.Range.{Range}
 use Rattle.net_model.specs.declared.signatures.Signature.{Signature}
@@ -17,10 +17,10 @@ use Rattle.net_model.specs.declared.signatures.Signature.{Signature}
 abbrev pub between : ℤ → ℕ → Range
 between low high = record { low = low; high = high }
 
--- an operation that shifts is given a count of places, which is at most 15
+-- an operation that shifts is given a count of places
 abbrev pub arith_ranges : ArithOp → List Range
-arith_ranges MulShRight = between (pos 0) 15 ∷ []
-arith_ranges DivShLeft = between (pos 0) 15 ∷ []
+arith_ranges MulShRight = between (pos 0) most_shift ∷ []
+arith_ranges DivShLeft = between (pos 0) most_shift ∷ []
 arith_ranges other = []
 
 -- the signature of a routine at its types; one that isn't built has an empty one

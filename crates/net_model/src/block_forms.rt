@@ -1,8 +1,11 @@
 // Blocks and their forms: what a block is given, and the block of what is given.
-ghost use Rattle.std.specs.Prelude.{◌≡◌, IsTrue, true};
+ghost use Rattle.std.specs.Prelude.{◌≡◌, ◌==◌, pos, true};
+ghost use Rattle.std.specs.List.{list_all};
+ghost use Rattle.std.specs.Ordering.{int_eq};
 ghost use Rattle.fx_routines.specs.Names.{takes};
 ghost use Rattle.net_model.specs.Signatures.{signature_of};
-ghost use Rattle.net_model.specs.BlockForms.{block_of, first_of, form_of, held_by, in_ranges, is_built_routine, number_or_zero, trimmed, wire_or_first};
+ghost use Rattle.net_model.specs.BlockForms.{block_of, first_of, form_of, held_by, adds_no_number, in_ranges, number_or_zero, repeats_first, trimmed, wire_or_first};
+ghost use Rattle.net_model.specs.Built.{is_built};
 
 use crate::rooms::Few;
 use crate::signatures::{Signature, signature_of};
@@ -59,11 +62,53 @@ pub fn form_of(block: Block) -> Form
     }
 }
 
+/// Whether each wire that a block holds beyond those that its routine has repeats the first.
+pub fn repeats_first(block: &Block) -> bool
+    ensures { result ≡ repeats_first block.now }
+{
+    let Form {
+        routine,
+        types,
+        wires,
+        ..
+    } = held_by(*block);
+    let sorts = signature_of(routine, types).sorts;
+    let form = form_of(*block);
+    let first = first_of(form.wires.as_slice());
+    all_are(first, wires.behind(sorts.as_slice().len()))
+}
+
+fn all_are(first: WireNo, wires: &[WireNo]) -> bool
+    ensures { result ≡ list_all (λ w. w.0 == first.0) wires.now }
+{
+    wires.iter().all(|wire| wire.0 == first.0)
+}
+
+/// Whether each number that a block holds beyond those that its routine has is 0.
+pub fn adds_no_number(block: &Block) -> bool
+    ensures { result ≡ adds_no_number block.now }
+{
+    let Form {
+        routine,
+        types,
+        numbers,
+        ..
+    } = held_by(*block);
+    let ranges = signature_of(routine, types).ranges;
+    all_zero(numbers.behind(ranges.as_slice().len()))
+}
+
+fn all_zero(numbers: &[i64]) -> bool
+    ensures { result ≡ list_all (λ n. int_eq n (pos 0)) numbers.now }
+{
+    numbers.iter().all(|number| *number == 0)
+}
+
 /// The block of a form, one arm a family: at types that its routine takes, and with numbers in their
 /// ranges.
 #[tactic(auto, unfolding(crate::specs::BlockForms::block_of, crate::specs::Signatures::signature_of), using(crate::proofs::FormTypes::one_width))]
 pub fn block_of(form: &Form) -> Block
-    requires built { is_built_routine form.now.routine ≡ true }
+    requires built { is_built form.now.routine ≡ true }
     requires taken { takes form.now.routine form.now.types ≡ true }
     requires numbers { in_ranges (signature_of form.now.routine form.now.types).ranges form.now.numbers ≡ true }
     ensures { result ≡ block_of form.now }

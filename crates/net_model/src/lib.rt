@@ -15,9 +15,9 @@ mod signatures;
 mod smoothness;
 mod wires;
 
-pub use block_forms::{Form, block_of, first_of, form_of, held_by};
-pub use built::{ArgumentTypes, GREATEST_SHIFT, argument_types, has_shift, is_built, scaled_types};
-pub use conditions::{agrees, kind_holds};
+pub use block_forms::{Form, block_of, form_of};
+pub use built::is_built;
+pub use conditions::{form_agrees, in_range, kind_holds};
 pub use draft_checks::{MOST_WIRES, has_ends, is_range};
 pub use laws::law_of_drafts;
 pub use naming::{Name, NameFault};

@@ -1,5 +1,5 @@
 // Lists of fixed room.
-ghost use Rattle.std.specs.Prelude.{◌≡◌, ◌≤◌, ◌<◌, ◌++◌, [], ◌∷◌, length, take};
+ghost use Rattle.std.specs.Prelude.{◌≡◌, ◌≤◌, ◌<◌, ◌++◌, [], ◌∷◌, length, drop, take};
 
 use std::marker::Model;
 
@@ -56,6 +56,18 @@ impl<T: Copy> Few<T> {
         Few {
             all: self.all,
             count: self.count.min(count),
+        }
+    }
+
+    /// The elements behind the first `count`.
+    pub fn behind(&self, count: usize) -> &[T]
+        ensures { result.now ≡ drop count self.now }
+    {
+        let all = self.as_slice();
+        if count < all.len() {
+            &all[count..]
+        } else {
+            &[]
         }
     }
 }

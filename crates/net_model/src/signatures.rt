@@ -127,7 +127,10 @@ fn one(x: Ty) -> Few<Sort>
 fn two(x: Ty, y: Ty) -> Few<Sort>
     ensures { result ≡ Number x ∷ Number y ∷ [] }
 {
-    Few::of([Sort::Number(x), Sort::Number(y), Sort::Truth, Sort::Truth], 2)
+    Few::of(
+        [Sort::Number(x), Sort::Number(y), Sort::Truth, Sort::Truth],
+        2,
+    )
 }
 
 fn three(x: Ty, y: Ty, z: Ty) -> Few<Sort>
