@@ -1,5 +1,5 @@
 -- What the signature of a built routine has: a sort at least, and a shift at most.
-use Rattle.std.proofs.Common.{◌≡◌, ℕ, ◌≤◌, Bool, ◌==◌, ◌&&◌, nat_le, true, [], ◌∷◌, map, length, take, drop, pos, sym, arith, eqb-true, eq-eqb, leb-true, true≢false}
+use Rattle.std.proofs.Common.{refl, ◌≡◌, ℕ, ◌≤◌, Bool, ◌==◌, ◌&&◌, nat_le, true, [], ◌∷◌, map, length, take, drop, pos, sym, arith, eqb-true, eq-eqb, leb-true, true≢false, ◌^◌, negsuc, int_le}
 use Rattle.std.specs.List.{list_all}
 use Rattle.std.specs.Ordering.{int_eq}
 use Rattle.std.proofs.lemmas.Bool.{and_parts}
@@ -14,6 +14,7 @@ use Rattle.fx_routines.specs.declared.table.Routine.TheVariants.{Arith, Scaled}
 use Rattle.mfx_arith.specs.Operations.{argument_types}
 use Rattle.mfx_scaled.specs.Operations.{argument_types as scaled_types}
 use Rattle.net_model.specs.declared.signatures.Sort.TheVariants.{Number}
+use Rattle.net_model.specs.declared.signatures.Range.{Range}
 use Rattle.net_model.specs.Built.{is_built, most_shift}
 use Rattle.net_model.specs.Signatures.{between, signature_of, arith_ranges}
 use Rattle.net_model.specs.BlockForms.{in_ranges}
@@ -63,3 +64,21 @@ unfolding signature_of
 reads_some (Arith op) v built = arith_reads_some op v
 reads_some (Scaled op) v built = scaled_reads_some op v
 reads_some other v built = absurd (true≢false (sym built))
+
+-- ---- ranges
+
+-- a range within 33 bits
+abbrev pub is_short : Range → Bool
+is_short range = int_le (negsuc (2 ^ 32)) range.low && nat_le range.high (2 ^ 32)
+
+arith_ranges_are_short : (op : ArithOp) → list_all is_short (arith_ranges op) ≡ true
+arith_ranges_are_short MulShRight = refl
+arith_ranges_are_short DivShLeft = refl
+arith_ranges_are_short other = refl
+
+-- the numbers of a routine's line are short
+pub ranges_are_short : (routine : Routine) (v : Types) → list_all is_short (signature_of routine v).ranges ≡ true
+unfolding signature_of
+ranges_are_short (Arith op) v = arith_ranges_are_short op
+ranges_are_short (Scaled op) v = refl
+ranges_are_short other v = refl
