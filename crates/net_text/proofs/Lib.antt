@@ -1,5 +1,7 @@
 mod HeldNumbers
 pub mod GoodLines
+mod NamePlaces
+mod NamesKept
 pub mod ReadingLaw
 mod TextExamples
 mod PrintedBlocks

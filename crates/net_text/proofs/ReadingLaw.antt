@@ -4,6 +4,7 @@ use Rattle.std.specs.Prelude.{Option, Some, None}
 use Rattle.std.specs.List.{list_any, list_all}
 use Rattle.std.proofs.Math.ListN.{get_or-append}
 use Rattle.std.proofs.lemmas.List.Folds.{list_any-append, list_all-append}
+use Rattle.std.proofs.lemmas.List.{map-append}
 use Rattle.std.proofs.lemmas.Bool.{and_parts}
 use Rattle.std.proofs.lemmas.Bool.Decides.{nat_tests}
 use Rattle.text_words.specs.Names.{is_name}
@@ -23,6 +24,7 @@ use Rattle.text_words.specs.Steps.{◌>>=◌}
 use Rattle.text_words.proofs.ReaderSteps.{kept_by_text}
 use Rattle.net_text.specs.Forms.{out_line, defining_line}
 use Rattle.net_text.specs.Text.{after_out, after_definition, after_line, net_reader, network_of}
+use Rattle.net_text.proofs.NamePlaces.{list_any-map}
 use Rattle.net_text.proofs.GoodLines.{IsGood, IsGoodOut, is_wire-named, definition_good, output_line_good, true_if_both, first_of_both, second_of_both}
 
 -- ---- one more wire leaves the wires before it good
@@ -120,16 +122,6 @@ are_distinct_outs-last (m ∷ outs) o d new =
     let apart = or_false (o.0 == m.0) (is_among outs o) new in
     true_if_both _ _ (none_more (λ k. m.0 == k.0) outs o (first_of_both (not (is_among outs m)) (are_distinct_outs outs) d) (other_way m.0 o.0 apart.0)) (are_distinct_outs-last outs o (second_of_both (not (is_among outs m)) (are_distinct_outs outs) d) apart.1)
 
--- a test of what is mapped
-list_any-map : {X Y : Type 0} (f : X → Y) (p : Y → Bool) (xs : List X) → list_any p (map f xs) ≡ list_any (λ x. p (f x)) xs
-list_any-map f p [] = refl
-list_any-map f p (x ∷ xs) = ap (λ t. p (f x) || t) (list_any-map f p xs)
-
--- one more element is mapped
-map-last : {X Y : Type 0} (f : X → Y) (xs : List X) (x : X) → map f (xs ++ x ∷ []) ≡ map f xs ++ f x ∷ []
-map-last f [] x = refl
-map-last f (y ∷ xs) x = ap (λ t. f y ∷ t) (map-last f xs x)
-
 -- a number below a bound is below a greater one
 lt_more : (a n m : ℕ) → nat_lt a n ≡ true → n ≤ m → nat_lt a m ≡ true
 lt_more a n m h le = grind (arith, nat_tests)
@@ -180,7 +172,7 @@ more_wires_sound net name content s g =
     let last : is_good_wire (wires ++ w ∷ []) (0 + length wires) w ≡ true = is_good_wire-append wires (w ∷ []) (0 + length wires) w (omega arith) ∙ ap (λ k. is_good_wire wires k w) (zero-add (length wires)) ∙ here in
     record {
       few = few_more (length wires) (length (wires ++ w ∷ [])) g.room longer;
-      distinct = ap are_distinct (map-last (λ w. w.name) wires w) ∙ are_distinct-last (map (λ w. w.name) wires) name s.distinct new;
+      distinct = ap are_distinct (map-append (λ w. w.name) wires (w ∷ [])) ∙ are_distinct-last (map (λ w. w.name) wires) name s.distinct new;
       good = are_good_from-last (wires ++ w ∷ []) 0 wires w ∙ true_if_both _ _ (are_good_from-append wires (w ∷ []) 0 wires (omega arith) ∙ s.good) last;
       within = outs_within (length wires) (length (wires ++ w ∷ [])) net.outs (omega (arith, longer)) s.within;
       once = s.once;

@@ -1,16 +1,15 @@
 // The forms of lines: what each gives, or the first of its tests that fails.
-ghost use Rattle.std.specs.Prelude.{◌≡◌, ◌<◌, ◌≤◌, length, IfOk, IfSome, OnOk, bytes_eq, codes, int_le, nat_le, pos, unsigned_abs, false, true, ◌&&◌, ◌==◌};
-ghost use Rattle.text_words.specs.Lines.{lines_of, nth, words_of};
+ghost use Rattle.std.specs.Prelude.{◌≡◌, ◌<◌, ◌≤◌, length, IfOk, OnOk, bytes_eq, codes, int_le, nat_le, pos, unsigned_abs, false, true, ◌&&◌, ◌==◌};
+ghost use Rattle.text_words.specs.Lines.{nth, words_of};
 ghost use Rattle.text_words.specs.Names.{is_name};
 ghost use Rattle.fx_routines.specs.declared.operation.ArithOp.{ArithOp};
-ghost use Rattle.net_model.specs.Wires.{place_of};
 ghost use Rattle.net_model.specs.Built.{has_shift, is_shift};
 ghost use Rattle.net_model.specs.Validity.{is_among};
 ghost use Rattle.net_text.specs.TypeWords.{ty_of};
 ghost use Rattle.net_text.specs.Forms.{AreBelow, agreed, are_known, argument_word, arguments_of, axis_passes, const_line, defining_line, delay_line, fresh, routine_content, in_line, is_known, is_narrow, is_output, is_type, is_wire, line_of, list_line, map_line, out_line, input_of, wire_above, shift_at, shift_of, spaced_line, unbuilt_line, const_of, wire_line, words_wanted};
 
-use crate::definitions::is_defined;
 use crate::keyword::{Keyword, keyword_of};
+use crate::names::Above;
 use crate::routine_word::{
     Arguments, Routine, arity_of, block_of, is_shifting, routine_at, types_of,
 };
@@ -18,8 +17,8 @@ use crate::type_word::{axis_name, is_position, kind_of, ty_of};
 use fx_core::Ty;
 use mfx_arith::ArithOp;
 use net_model::{
-    Block, GREATEST_SHIFT, Item, Kind, MOST_WIRES, NetKind, Wire, WireNo, agrees, has_shift,
-    is_range, kind_holds,
+    Block, GREATEST_SHIFT, Item, Kind, MOST_WIRES, NetKind, WireNo, agrees, has_shift, is_range,
+    kind_holds,
 };
 use text_words::{count_words, demand, is_literal, is_name, number, word_at};
 
@@ -33,106 +32,105 @@ pub struct Content {
     pub item: Item,
 }
 
-/// The wire that a line defines, by the line's keyword. `text` is the whole text, and `wires` are those
-/// of the lines above.
+/// The wire that a line defines, by the line's keyword.
 #[tactic(auto, unfolding(crate::specs::Forms::defining_line))]
-pub fn defining_line(text: &[u8], wires: &[Wire], line: &[u8]) -> Result<Content, NetKind>
-    requires { length wires.now ≤ 512 }
-    ensures value { result ≡ defining_line (lines_of text.now) wires.now (words_of line.now) }
-    ensures room { OnOk result (length wires.now < 512) }
+pub fn defining_line(above: &Above, line: &[u8]) -> Result<Content, NetKind>
+    requires { length above.now.wires ≤ 512 }
+    ensures value { result ≡ defining_line above.now.lines above.now.wires (words_of line.now) }
+    ensures room { OnOk result (length above.now.wires < 512) }
     ensures name { OnOk result (is_name (nth (words_of line.now) 1) ≡ true) }
 {
     match keyword_of(word_at(line, 0)) {
-        Some(keyword) => line_of(keyword, text, wires, line),
+        Some(keyword) => line_of(keyword, above, line),
         None => Err(NetKind::BadLine),
     }
 }
 
 #[tactic(auto, unfolding(crate::specs::Forms::line_of))]
-fn line_of(keyword: Keyword, text: &[u8], wires: &[Wire], line: &[u8]) -> Result<Content, NetKind>
-    requires { length wires.now ≤ 512 }
-    ensures value { result ≡ line_of keyword (lines_of text.now) wires.now (words_of line.now) }
-    ensures room { OnOk result (length wires.now < 512) }
+fn line_of(keyword: Keyword, above: &Above, line: &[u8]) -> Result<Content, NetKind>
+    requires { length above.now.wires ≤ 512 }
+    ensures value { result ≡ line_of keyword above.now.lines above.now.wires (words_of line.now) }
+    ensures room { OnOk result (length above.now.wires < 512) }
     ensures name { OnOk result (is_name (nth (words_of line.now) 1) ≡ true) }
 {
     match keyword {
-        Keyword::InLine => in_line(wires, line),
-        Keyword::ConstLine => const_line(wires, line),
-        Keyword::AxisLine => list_line(wires, line),
-        Keyword::AxisStepLine => spaced_line(wires, line),
-        Keyword::AxisShiftLine => spaced_line(wires, line),
-        Keyword::TableLine => list_line(wires, line),
-        Keyword::MapLine => map_line(wires, line),
-        Keyword::WireLine => wire_line(text, wires, line),
-        Keyword::DelayLine => delay_line(wires, line),
+        Keyword::InLine => in_line(above, line),
+        Keyword::ConstLine => const_line(above, line),
+        Keyword::AxisLine => list_line(above, line),
+        Keyword::AxisStepLine => spaced_line(above, line),
+        Keyword::AxisShiftLine => spaced_line(above, line),
+        Keyword::TableLine => list_line(above, line),
+        Keyword::MapLine => map_line(above, line),
+        Keyword::WireLine => wire_line(above, line),
+        Keyword::DelayLine => delay_line(above, line),
     }
 }
 
 // `in NAME TYPE LO HI`
 #[tactic(auto, unfolding(crate::specs::Forms::in_line))]
-fn in_line(wires: &[Wire], line: &[u8]) -> Result<Content, NetKind>
-    ensures value { result ≡ in_line wires.now (words_of line.now) }
-    ensures room { OnOk result (length wires.now < 512) }
+fn in_line(above: &Above, line: &[u8]) -> Result<Content, NetKind>
+    ensures value { result ≡ in_line above.now.wires (words_of line.now) }
+    ensures room { OnOk result (length above.now.wires < 512) }
     ensures name { OnOk result (is_name (nth (words_of line.now) 1) ≡ true) }
 {
     demand!(count_words(line) == 5, NetKind::BadLine);
-    fresh(wires, word_at(line, 1))?;
+    fresh(above, word_at(line, 1))?;
     let Some(kind) = kind_of(word_at(line, 2)) else {
         return Err(NetKind::BadType);
     };
     let item = input_of(kind, word_at(line, 3), word_at(line, 4))?;
-    demand!(wires.len() < MOST_WIRES, NetKind::TooMany);
+    demand!(above.wires().len() < MOST_WIRES, NetKind::TooMany);
     Ok(Content { kind, item })
 }
 
 // `const NAME TYPE VALUE`
 #[tactic(auto, unfolding(crate::specs::Forms::const_line))]
-fn const_line(wires: &[Wire], line: &[u8]) -> Result<Content, NetKind>
-    ensures value { result ≡ const_line wires.now (words_of line.now) }
-    ensures room { OnOk result (length wires.now < 512) }
+fn const_line(above: &Above, line: &[u8]) -> Result<Content, NetKind>
+    ensures value { result ≡ const_line above.now.wires (words_of line.now) }
+    ensures room { OnOk result (length above.now.wires < 512) }
     ensures name { OnOk result (is_name (nth (words_of line.now) 1) ≡ true) }
 {
     demand!(count_words(line) == 4, NetKind::BadLine);
-    fresh(wires, word_at(line, 1))?;
+    fresh(above, word_at(line, 1))?;
     let Some(kind) = kind_of(word_at(line, 2)) else {
         return Err(NetKind::BadType);
     };
     let item = const_of(kind, word_at(line, 3))?;
-    demand!(wires.len() < MOST_WIRES, NetKind::TooMany);
+    demand!(above.wires().len() < MOST_WIRES, NetKind::TooMany);
     Ok(Content { kind, item })
 }
 
 // `wire NAME TYPE = ROUTINE ARG ..`
 #[tactic(auto, unfolding(crate::specs::Forms::wire_line))]
-fn wire_line(text: &[u8], wires: &[Wire], line: &[u8]) -> Result<Content, NetKind>
-    requires { length wires.now ≤ 512 }
-    ensures value { result ≡ wire_line (lines_of text.now) wires.now (words_of line.now) }
-    ensures room { OnOk result (length wires.now < 512) }
+fn wire_line(above: &Above, line: &[u8]) -> Result<Content, NetKind>
+    requires { length above.now.wires ≤ 512 }
+    ensures value { result ≡ wire_line above.now.lines above.now.wires (words_of line.now) }
+    ensures room { OnOk result (length above.now.wires < 512) }
     ensures name { OnOk result (is_name (nth (words_of line.now) 1) ≡ true) }
 {
     demand!(is_wire_form(line), NetKind::BadLine);
-    fresh(wires, word_at(line, 1))?;
+    fresh(above, word_at(line, 1))?;
     demand!(is_type(word_at(line, 2)), NetKind::BadType);
     let routine = routine_at(word_at(line, 4))?;
     demand!(
         count_words(line) == words_wanted(&routine),
         NetKind::BadCount
     );
-    demand!(are_known(text, wires, &routine, line), NetKind::UnknownName);
-    demand!(axis_is_reached(wires, word_at(line, 2)), NetKind::LaterWire);
-    routine_content(wires, &routine, line)
+    demand!(are_known(above, &routine, line), NetKind::UnknownName);
+    demand!(axis_is_reached(above, word_at(line, 2)), NetKind::LaterWire);
+    routine_content(above, &routine, line)
 }
 
 // What a wire line gives once its form and its names are tested.
-fn routine_content(wires: &[Wire], routine: &Routine, line: &[u8]) -> Result<Content, NetKind>
-    requires { length wires.now ≤ 512 }
-    ensures value { result ≡ routine_content wires.now routine.now (words_of line.now) }
-    ensures room { OnOk result (length wires.now < 512) }
+fn routine_content(above: &Above, routine: &Routine, line: &[u8]) -> Result<Content, NetKind>
+    requires { length above.now.wires ≤ 512 }
+    ensures value { result ≡ routine_content above.now.wires routine.now (words_of line.now) }
+    ensures room { OnOk result (length above.now.wires < 512) }
 {
-    let arguments = arguments_of(wires, *routine, line)?;
-    let kind = agreed(wires, block_of(*routine, arguments, 0), word_at(line, 2))?;
+    let arguments = arguments_of(above, *routine, line)?;
+    let kind = agreed(above, block_of(*routine, arguments, 0), word_at(line, 2))?;
     let sh = shift_of(routine, line)?;
-    demand!(wires.len() < MOST_WIRES, NetKind::TooMany);
+    demand!(above.wires().len() < MOST_WIRES, NetKind::TooMany);
     let item = Item::Block(block_of(*routine, arguments, sh));
     Ok(Content { kind, item })
 }
@@ -142,48 +140,48 @@ fn routine_content(wires: &[Wire], routine: &Routine, line: &[u8]) -> Result<Con
 fn unbuilt_line(
     has_form: bool,
     has_type: bool,
-    wires: &[Wire],
+    above: &Above,
     line: &[u8],
 ) -> Result<Content, NetKind>
-    ensures value { result ≡ unbuilt_line has_form has_type wires.now (words_of line.now) }
+    ensures value { result ≡ unbuilt_line has_form has_type above.now.wires (words_of line.now) }
     ensures none { OnOk result (true ≡ false) }
 {
     demand!(has_form, NetKind::BadLine);
-    fresh(wires, word_at(line, 1))?;
+    fresh(above, word_at(line, 1))?;
     demand!(has_type, NetKind::BadType);
     Err(NetKind::NotBuilt)
 }
 
 // `axis NAME TYPE P P ..` and `table NAME TYPE V V ..`
-fn list_line(wires: &[Wire], line: &[u8]) -> Result<Content, NetKind>
-    ensures value { result ≡ list_line wires.now (words_of line.now) }
+fn list_line(above: &Above, line: &[u8]) -> Result<Content, NetKind>
+    ensures value { result ≡ list_line above.now.wires (words_of line.now) }
     ensures none { OnOk result (true ≡ false) }
 {
-    unbuilt_line(count_words(line) >= 4, has_narrow(line), wires, line)
+    unbuilt_line(count_words(line) >= 4, has_narrow(line), above, line)
 }
 
 // `axisstep NAME TYPE OFFSET STEP COUNT` and `axisshift NAME TYPE OFFSET SHIFT COUNT`
-fn spaced_line(wires: &[Wire], line: &[u8]) -> Result<Content, NetKind>
-    ensures value { result ≡ spaced_line wires.now (words_of line.now) }
+fn spaced_line(above: &Above, line: &[u8]) -> Result<Content, NetKind>
+    ensures value { result ≡ spaced_line above.now.wires (words_of line.now) }
     ensures none { OnOk result (true ≡ false) }
 {
-    unbuilt_line(count_words(line) == 6, has_narrow(line), wires, line)
+    unbuilt_line(count_words(line) == 6, has_narrow(line), above, line)
 }
 
 // `map NAME TYPE NX NY V V ..`
-fn map_line(wires: &[Wire], line: &[u8]) -> Result<Content, NetKind>
-    ensures value { result ≡ map_line wires.now (words_of line.now) }
+fn map_line(above: &Above, line: &[u8]) -> Result<Content, NetKind>
+    ensures value { result ≡ map_line above.now.wires (words_of line.now) }
     ensures none { OnOk result (true ≡ false) }
 {
-    unbuilt_line(count_words(line) >= 5, has_narrow(line), wires, line)
+    unbuilt_line(count_words(line) >= 5, has_narrow(line), above, line)
 }
 
 // `delay NAME TYPE INIT = SOURCE`
-fn delay_line(wires: &[Wire], line: &[u8]) -> Result<Content, NetKind>
-    ensures value { result ≡ delay_line wires.now (words_of line.now) }
+fn delay_line(above: &Above, line: &[u8]) -> Result<Content, NetKind>
+    ensures value { result ≡ delay_line above.now.wires (words_of line.now) }
     ensures none { OnOk result (true ≡ false) }
 {
-    unbuilt_line(is_delay_form(line), is_type(word_at(line, 2)), wires, line)
+    unbuilt_line(is_delay_form(line), is_type(word_at(line, 2)), above, line)
 }
 
 // Six words, of which the fifth is `=`.
@@ -195,21 +193,16 @@ fn is_delay_form(line: &[u8]) -> bool
 
 /// The wire that an `out NAME` names, given the outputs above.
 #[tactic(auto, unfolding(crate::specs::Forms::out_line))]
-pub fn out_line(
-    text: &[u8],
-    wires: &[Wire],
-    outs: &[WireNo],
-    line: &[u8],
-) -> Result<WireNo, NetKind>
-    requires { length wires.now ≤ 512 }
-    ensures { result ≡ out_line (lines_of text.now) wires.now outs.now (words_of line.now) }
+pub fn out_line(above: &Above, outs: &[WireNo], line: &[u8]) -> Result<WireNo, NetKind>
+    requires { length above.now.wires ≤ 512 }
+    ensures { result ≡ out_line above.now.lines above.now.wires outs.now (words_of line.now) }
 {
     demand!(count_words(line) == 2, NetKind::BadLine);
     let name = word_at(line, 1);
     demand!(is_name(name), NetKind::BadName);
-    demand!(!is_output(outs, place_of(wires, name)), NetKind::Repeated);
-    demand!(is_known(text, wires, name), NetKind::UnknownName);
-    let place = wire_above(wires, name)?;
+    demand!(!is_output(outs, above.place_of(name)), NetKind::Repeated);
+    demand!(above.is_known(name), NetKind::UnknownName);
+    let place = wire_above(above, name)?;
     Ok(WireNo(place as u32))
 }
 
@@ -227,37 +220,16 @@ fn is_wire_form(line: &[u8]) -> bool
 }
 
 #[tactic(auto, unfolding(crate::specs::Forms::fresh))]
-fn fresh(wires: &[Wire], name: &[u8]) -> Result<(), NetKind>
-    ensures value { result ≡ fresh wires.now name.now }
+fn fresh(above: &Above, name: &[u8]) -> Result<(), NetKind>
+    ensures value { result ≡ fresh above.now.wires name.now }
     ensures name { OnOk result (is_name name.now ≡ true) }
 {
     demand!(is_name(name), NetKind::BadName);
-    demand!(!is_wire(wires, name), NetKind::Repeated);
+    demand!(!above.is_wire(name), NetKind::Repeated);
     Ok(())
 }
 
 // ---- names
-
-#[tactic(auto, unfolding(net_model::specs::Wires::place_of))]
-fn place_of(wires: &[Wire], name: &[u8]) -> Option<usize>
-    ensures value { result ≡ place_of wires.now name.now }
-    ensures within { IfSome result (λ place. place < length wires.now) }
-{
-    wires.iter().position(|wire| wire.name.bytes() == name)
-}
-
-fn is_wire(wires: &[Wire], name: &[u8]) -> bool
-    ensures { result ≡ is_wire wires.now name.now }
-{
-    place_of(wires, name).is_some()
-}
-
-#[tactic(auto, unfolding(crate::specs::Forms::is_known))]
-fn is_known(text: &[u8], wires: &[Wire], name: &[u8]) -> bool
-    ensures { result ≡ is_known (lines_of text.now) wires.now name.now }
-{
-    is_wire(wires, name) || is_defined(text, name)
-}
 
 // The word of an argument of this place and type; one that the routine doesn't have repeats the first.
 fn argument_word(line: &[u8], place: usize, ty: Option<Ty>) -> &[u8]
@@ -270,33 +242,33 @@ fn argument_word(line: &[u8], place: usize, ty: Option<Ty>) -> &[u8]
     }
 }
 
-fn are_known(text: &[u8], wires: &[Wire], routine: &Routine, line: &[u8]) -> bool
-    ensures { result ≡ are_known (lines_of text.now) wires.now routine.now (words_of line.now) }
+fn are_known(above: &Above, routine: &Routine, line: &[u8]) -> bool
+    ensures { result ≡ are_known above.now.lines above.now.wires routine.now (words_of line.now) }
 {
     let types = types_of(*routine);
-    axis_is_known(text, wires, word_at(line, 2))
-        && is_known(text, wires, argument_word(line, 0, types.x))
-        && is_known(text, wires, argument_word(line, 1, types.y))
-        && is_known(text, wires, argument_word(line, 2, types.z))
+    axis_is_known(above, word_at(line, 2))
+        && above.is_known(argument_word(line, 0, types.x))
+        && above.is_known(argument_word(line, 1, types.y))
+        && above.is_known(argument_word(line, 2, types.z))
 }
 
-fn axis_is_known(text: &[u8], wires: &[Wire], word: &[u8]) -> bool
-    ensures { result ≡ axis_passes (is_known (lines_of text.now) wires.now) word.now }
+fn axis_is_known(above: &Above, word: &[u8]) -> bool
+    ensures { result ≡ axis_passes (is_known above.now.lines above.now.wires) word.now }
 {
-    !is_position(word) || is_known(text, wires, axis_name(word))
+    !is_position(word) || above.is_known(axis_name(word))
 }
 
-fn axis_is_reached(wires: &[Wire], word: &[u8]) -> bool
-    ensures { result ≡ axis_passes (is_wire wires.now) word.now }
+fn axis_is_reached(above: &Above, word: &[u8]) -> bool
+    ensures { result ≡ axis_passes (is_wire above.now.wires) word.now }
 {
-    !is_position(word) || is_wire(wires, axis_name(word))
+    !is_position(word) || above.is_wire(axis_name(word))
 }
 
-fn wire_above(wires: &[Wire], name: &[u8]) -> Result<usize, NetKind>
-    ensures value { result ≡ wire_above wires.now name.now }
-    ensures within { IfOk result (λ place. place < length wires.now) }
+fn wire_above(above: &Above, name: &[u8]) -> Result<usize, NetKind>
+    ensures value { result ≡ wire_above above.now.wires name.now }
+    ensures within { IfOk result (λ place. place < length above.now.wires) }
 {
-    match place_of(wires, name) {
+    match above.place_of(name) {
         Some(place) => Ok(place),
         None => Err(NetKind::LaterWire),
     }
@@ -304,15 +276,15 @@ fn wire_above(wires: &[Wire], name: &[u8]) -> Result<usize, NetKind>
 
 // The wires that a routine is given.
 #[tactic(auto, unfolding(crate::specs::Forms::arguments_of))]
-fn arguments_of(wires: &[Wire], routine: Routine, line: &[u8]) -> Result<Arguments, NetKind>
-    requires { length wires.now ≤ 512 }
-    ensures value { result ≡ arguments_of wires.now routine (words_of line.now) }
-    ensures within { IfOk result (λ arguments. AreBelow (length wires.now) arguments) }
+fn arguments_of(above: &Above, routine: Routine, line: &[u8]) -> Result<Arguments, NetKind>
+    requires { length above.now.wires ≤ 512 }
+    ensures value { result ≡ arguments_of above.now.wires routine (words_of line.now) }
+    ensures within { IfOk result (λ arguments. AreBelow (length above.now.wires) arguments) }
 {
     let types = types_of(routine);
-    let x = wire_above(wires, argument_word(line, 0, types.x))?;
-    let y = wire_above(wires, argument_word(line, 1, types.y))?;
-    let z = wire_above(wires, argument_word(line, 2, types.z))?;
+    let x = wire_above(above, argument_word(line, 0, types.x))?;
+    let y = wire_above(above, argument_word(line, 1, types.y))?;
+    let z = wire_above(above, argument_word(line, 2, types.z))?;
     Ok(Arguments {
         x: WireNo(x as u32),
         y: WireNo(y as u32),
@@ -423,12 +395,12 @@ fn is_narrow(ty: Option<Ty>) -> bool
 
 // The kind that the wire of a block has by its type word, where the types of both agree.
 #[tactic(auto, unfolding(crate::specs::Forms::agreed))]
-fn agreed(wires: &[Wire], block: Block, word: &[u8]) -> Result<Kind, NetKind>
-    ensures { result ≡ agreed wires.now block word.now }
+fn agreed(above: &Above, block: Block, word: &[u8]) -> Result<Kind, NetKind>
+    ensures { result ≡ agreed above.now.wires block word.now }
 {
     let Some(kind) = kind_of(word) else {
         return Err(NetKind::TypeDiffers);
     };
-    demand!(agrees(wires, kind, &block), NetKind::TypeDiffers);
+    demand!(agrees(above.wires(), kind, &block), NetKind::TypeDiffers);
     Ok(kind)
 }
