@@ -5,12 +5,11 @@ use Rattle.std.specs.List.{position_or_len}
 use Rattle.std.proofs.lemmas.Bool.{true≢false, false≢true, and_from, and_parts, not_from_true, ltb-false, le-ltb}
 use Rattle.text_words.specs.Lines.{nth}
 use Rattle.text_words.specs.Numbers.{number_of}
-use Rattle.net_model.specs.declared.wires.Wire.{Wire}
 use Rattle.net_model.specs.Wires.{NetData, parts_of}
 use Rattle.net_model.specs.Validity.{IsValid}
 use Rattle.net_model.proofs.ValidityFacts.{length-parts_of, length-valid}
 use Rattle.text_words.specs.Steps.{◌>>=◌, demand}
-use Rattle.cert_rules.specs.declared.bounds.Bounds.{Bounds}
+use Rattle.part_rules.specs.declared.bounds.Bounds.{Bounds}
 use Rattle.cert_rules.specs.Proper.{is_entry_number, is_proper_entry, first_improper}
 use Rattle.bench_core.specs.declared.cert_kind.CertKind.{CertKind}
 use Rattle.bench_core.specs.declared.cert_kind.CertKind.TheVariants.{BadLine, WrongPart, BadNumber, EmptyRange}
@@ -85,11 +84,11 @@ bounds_of_line-proper words b h =
     let error = number_between (pos 0) most (nth words 4) err.value err.gives in
     subst (λ x. is_proper_entry x ≡ true) (ok_same said b order.1) (proper_of lo.value hi.value err.value order.0 low high error)
 
-part_line-proper : (wires : List Wire) (k : ℕ) (words : List (List ℕ)) (b : Bounds) → part_line wires k words ≡ Ok b → is_proper_entry b ≡ true
+part_line-proper : (net : NetData) (k : ℕ) (words : List (List ℕ)) (b : Bounds) → part_line net k words ≡ Ok b → is_proper_entry b ≡ true
 unfolding part_line bounds_of_line bounds_from bounds_behind bounds_in_order
-part_line-proper wires k words b h =
-    let form = demanded (bytes_eq (nth words 0) (codes "part") && (length words == 5)) BadLine (λ _. demand (names_next wires k (nth words 1)) WrongPart >>= (λ _. bounds_of_line words)) b h in
-    let name = demanded (names_next wires k (nth words 1)) WrongPart (λ _. bounds_of_line words) b form.1 in
+part_line-proper net k words b h =
+    let form = demanded (bytes_eq (nth words 0) (codes "part") && (length words == 5)) BadLine (λ _. demand (names_next net k (nth words 1)) WrongPart >>= (λ _. bounds_of_line words)) b h in
+    let name = demanded (names_next net k (nth words 1)) WrongPart (λ _. bounds_of_line words) b form.1 in
     bounds_of_line-proper words b name.1
 
 -- ---- so are all entries of a text
@@ -122,21 +121,21 @@ none_behind test entries b one h =
 some_is_not_none : (k : ℕ) → ◌≡◌ {A = Option ℕ} (Some k) None → ⊥
 some_is_not_none k h = cc
 
-entry_behind : (wires : List Wire) (found : List Bounds) (words : List (List ℕ)) (next : List Bounds) → first_improper found ≡ None → (part_line wires (length found) words >>= (λ entry. Ok (found ++ entry ∷ []))) ≡ Ok next → first_improper next ≡ None
-entry_behind wires found words next none h =
-    let e = bound (part_line wires (length found) words) (λ entry. Ok (found ++ entry ∷ [])) next h in
-    let proper = part_line-proper wires (length found) words e.value e.gives in
+entry_behind : (net : NetData) (found : List Bounds) (words : List (List ℕ)) (next : List Bounds) → first_improper found ≡ None → (part_line net (length found) words >>= (λ entry. Ok (found ++ entry ∷ []))) ≡ Ok next → first_improper next ≡ None
+entry_behind net found words next none h =
+    let e = bound (part_line net (length found) words) (λ entry. Ok (found ++ entry ∷ [])) next h in
+    let proper = part_line-proper net (length found) words e.value e.gives in
     subst (λ entries. first_improper entries ≡ None) (ok_same _ next e.later) (none_behind (λ b. not (is_proper_entry b)) found e.value (not_from_true _ proper) none)
 
 -- the certificate of a text has none that isn't proper, and one entry for each part
-said_good : (wires : List Wire) (text : List ℕ) (entries : List Bounds) → certificate_of wires text ≡ Ok entries → (first_improper entries ≡ None) × ((length entries == length (parts_of wires)) ≡ true)
+said_good : (net : NetData) (text : List ℕ) (entries : List Bounds) → certificate_of net text ≡ Ok entries → (first_improper entries ≡ None) × ((length entries == length (parts_of net.wires)) ≡ true)
 unfolding certificate_of
-said_good wires text entries h =
-    kept_by_text (certificate_reader wires) (λ found. first_improper found ≡ None) text entries (λ found words next none made. entry_behind wires found words next none made) refl h
+said_good net text entries h =
+    kept_by_text (certificate_reader net) (λ found. first_improper found ≡ None) text entries (λ found words next none made. entry_behind net found words next none made) refl h
 
-pub certificate_of-complete : (wires : List Wire) (text : List ℕ) (entries : List Bounds) → certificate_of wires text ≡ Ok entries → length entries ≡ length (parts_of wires)
-certificate_of-complete wires text entries h = eqb-true (length entries) (length (parts_of wires)) (said_good wires text entries h).1
+pub certificate_of-complete : (net : NetData) (text : List ℕ) (entries : List Bounds) → certificate_of net text ≡ Ok entries → length entries ≡ length (parts_of net.wires)
+certificate_of-complete net text entries h = eqb-true (length entries) (length (parts_of net.wires)) (said_good net text entries h).1
 
 -- each entry of a text's certificate is proper, so none is the first that isn't
-pub never_improper : (wires : List Wire) (text : List ℕ) (entries : List Bounds) (k : ℕ) → certificate_of wires text ≡ Ok entries → first_improper entries ≡ Some k → ⊥
-never_improper wires text entries k h improper = some_is_not_none k (sym improper ∙ (said_good wires text entries h).0)
+pub never_improper : (net : NetData) (text : List ℕ) (entries : List Bounds) (k : ℕ) → certificate_of net text ≡ Ok entries → first_improper entries ≡ Some k → ⊥
+never_improper net text entries k h improper = some_is_not_none k (sym improper ∙ (said_good net text entries h).0)

@@ -4,7 +4,7 @@ use Rattle.std.specs.Prelude.{⊤, codes, ◌&&◌}
 use Rattle.fx_io.specs.Outside.{bytes_of}
 use Rattle.net_model.specs.declared.wires.Wire.{Wire}
 use Rattle.net_model.specs.Wires.{NetData}
-use Rattle.cert_rules.specs.declared.bounds.Bounds.{Bounds}
+use Rattle.part_rules.specs.declared.bounds.Bounds.{Bounds}
 use Rattle.cert_rules.specs.Acceptance.{first_rejected}
 use Rattle.cert_rules.proofs.AcceptanceLaws.{accepts_from_none_rejected, all_are_smooth}
 use Rattle.cert_rules.proofs.TheoremProof.{certificates_hold}
@@ -60,7 +60,7 @@ acceptance_given wires entries x h = none_rejected wires (first_rejected wires e
 
 -- ---- the headline
 
-certifies : (net cert : List ℕ) (network : NetData) (entries : List Bounds) → network_of net ≡ Ok network → certificate_of network.wires cert ≡ Ok entries → first_rejected network.wires entries ≡ None → IsCertified net cert
+certifies : (net cert : List ℕ) (network : NetData) (entries : List Bounds) → network_of net ≡ Ok network → certificate_of network cert ≡ Ok entries → first_rejected network entries ≡ None → IsCertified net cert
 certifies net cert network entries n c k =
     let complete = certificate_of-complete network.wires cert entries c in
     let accepts = accepts_from_none_rejected network.wires entries (all_are_smooth network (network_of_valid net network n)) complete k in
@@ -83,8 +83,8 @@ unfolding check_answer check_bytes check_entries
 check_done files net cert h =
     let n = passed_both files net cert text_limit (check_bytes cert) h in
     let bytes = bytes_of files cert in
-    let c = passed (certificate_in n.network.wires cert bytes) (check_entries n.network) (certificate_above n.network.wires cert bytes) n.done_after in
-    let a = passed (acceptance n.network.wires c.given) tell_accepted (acceptance_above n.network.wires c.given) c.done_after in
+    let c = passed (certificate_in n.network cert bytes) (check_entries n.network) (certificate_above n.network.wires cert bytes) n.done_after in
+    let a = passed (acceptance n.network c.given) tell_accepted (acceptance_above n.network.wires c.given) c.done_after in
     record {
       prints = n.prints ∙ c.prints ∙ a.prints ∙ append-nil accepted_line;
       certified = certifies (bytes_of files net) bytes n.network c.given n.is_network (certificate_given n.network.wires cert bytes c.given c.gives) (acceptance_given n.network.wires c.given a.given a.gives);

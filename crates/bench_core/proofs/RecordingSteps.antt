@@ -85,7 +85,7 @@ run_by_head net bytes = run_from_head net (head_of net.wires (lines_of bytes))
 
 -- the lines of these rows
 abbrev pub text_of : NetData → List (List ℤ) → List ℕ
-text_of net rows = rows_text net.outs (table machine net.wires rows)
+text_of net rows = rows_text net.outs (table machine net rows)
 
 pub text_none : (net : NetData) → text_of net [] ≡ []
 unfolding rows_text table

@@ -1,8 +1,7 @@
 -- The part that is rejected is one of the network's.
 use Rattle.std.proofs.Common.{◌≡◌, ℕ, zero, suc, ◌+◌, ◌<◌, Bool, true, false, cond, List, length, Option, Some, None, sym, arith}
-use Rattle.net_model.specs.declared.wires.Wire.{Wire}
-use Rattle.net_model.specs.Wires.{parts_of}
-use Rattle.cert_rules.specs.declared.bounds.Bounds.{Bounds}
+use Rattle.net_model.specs.Wires.{NetData, parts_of}
+use Rattle.part_rules.specs.declared.bounds.Bounds.{Bounds}
 use Rattle.cert_rules.specs.Acceptance.{is_allowed_at, is_inductive_at, first_failing, or_later, first_rejected}
 
 some_same : (a b : ℕ) → ◌≡◌ {A = Option ℕ} (Some a) (Some b) → a ≡ b
@@ -23,7 +22,7 @@ either_below (Some k) later p end one two h = one h
 either_below None later p end one two h = two h
 
 -- a rejected part is one of the parts
-pub rejected_below : (wires : List Wire) (entries : List Bounds) (p : ℕ) → Some p ≡ first_rejected wires entries → p < length (parts_of wires)
+pub rejected_below : (net : NetData) (entries : List Bounds) (p : ℕ) → Some p ≡ first_rejected net entries → p < length (parts_of net.wires)
 unfolding first_rejected
-rejected_below wires entries p h =
-    either_below _ _ p (length (parts_of wires)) (λ e. omega (arith, first_failing_below (is_allowed_at wires entries) 0 (length (parts_of wires)) p e)) (λ e. omega (arith, first_failing_below (is_inductive_at wires entries) 0 (length (parts_of wires)) p e)) (sym h)
+rejected_below net entries p h =
+    either_below _ _ p (length (parts_of net.wires)) (λ e. omega (arith, first_failing_below (is_allowed_at net entries) 0 (length (parts_of net.wires)) p e)) (λ e. omega (arith, first_failing_below (is_inductive_at net entries) 0 (length (parts_of net.wires)) p e)) (sym h)

@@ -51,7 +51,7 @@ record ReadOut (net : NetData) (bytes : List ℕ) (o : Outcome) : Type 0 where
   pub rows : List (List ℤ)
   pub is_recording : recording_of net.wires bytes ≡ record { is_headed = true; rows = rows; fault = None }
   pub has_inputs : HasAllInputs net.wires rows
-  pub prints : o.out ≡ run_text net (table machine net.wires rows)
+  pub prints : o.out ≡ run_text net (table machine net rows)
 
 bytes_read_out : (net : NetData) (bytes : List ℕ) → (run_bytes net bytes).status ≡ 0 → ReadOut net bytes (run_bytes net bytes)
 unfolding run_bytes run_recording recording_of
@@ -83,11 +83,11 @@ run_done files net rec h =
       runs = record {
         network = n.network;
         rows = r.rows;
-        cells = table machine n.network.wires r.rows;
+        cells = table machine n.network r.rows;
         is_network = n.is_network;
         is_recording = r.is_recording;
         is_run = run;
-        is_only = λ others is. runs_agree machine n.network valid r.rows others (table machine n.network.wires r.rows) is run;
+        is_only = λ others is. runs_agree machine n.network valid r.rows others (table machine n.network r.rows) is run;
         prints = n.prints ∙ r.prints;
       };
     }

@@ -1,11 +1,11 @@
 -- What reading a certificate's text gives.
 use Rattle.std.specs.Prelude.{◌≡◌, ℕ, List, Result, Ok, Err}
-use Rattle.net_model.specs.declared.wires.Wire.{Wire}
-use Rattle.cert_rules.specs.declared.bounds.Bounds.{Bounds}
+use Rattle.part_rules.specs.declared.bounds.Bounds.{Bounds}
 use Rattle.bench_core.specs.declared.cert_kind.CertFault.{CertFault}
 use Rattle.bench_core.specs.declared.cert_kind.CertError.{CertError}
 use Rattle.bench_core.specs.declared.cert_kind.CertError.TheVariants.{Fault, OutOfMemory}
 use Rattle.bench_core.specs.CertificateText.{certificate_of}
+use Rattle.net_model.specs.Wires.{NetData}
 
 -- entries, or a fault, are what is wanted, unless memory runs out
 abbrev pub GivesEntries : Result (List Bounds) CertFault → Result (List Bounds) CertError → Type 0
@@ -14,5 +14,5 @@ GivesEntries wanted (Err (Fault fault)) = wanted ≡ Err fault
 GivesEntries wanted (Err OutOfMemory) = Unit {0}
 
 -- the certificate that the text says, or its first fault, unless memory runs out
-abbrev pub ReadsCertificate : List Wire → List ℕ → Result (List Bounds) CertError → Type 0
-ReadsCertificate wires text result = GivesEntries (certificate_of wires text) result
+abbrev pub ReadsCertificate : NetData → List ℕ → Result (List Bounds) CertError → Type 0
+ReadsCertificate net text result = GivesEntries (certificate_of net text) result

@@ -16,7 +16,7 @@ recording_limit = 67108864
 -- what is printed of a recording's rows; without a header nothing is
 abbrev pub run_printed : NetData → Bool → List (List ℤ) → List ℕ
 run_printed net false rows = []
-run_printed net true rows = run_text net (table machine net.wires rows)
+run_printed net true rows = run_text net (table machine net rows)
 
 -- how a recording ends: read out, or refused
 abbrev pub recording_end : NetData → Option RecordingFault → Outcome

@@ -32,7 +32,7 @@ head_step net lines = refusing net.wires (head_of net.wires lines)
 unfoldable pub rows_answer : NetData → HeaderData → List (List ℤ) → List (List ℕ) → Outcome
 rows_answer net header rows lines =
     let r = rows_below header rows lines in
-    printed (rows_text net.outs (table machine net.wires r.rows)) (recording_end net r.fault)
+    printed (rows_text net.outs (table machine net r.rows)) (recording_end net r.fault)
 
 -- what a header and the lines below it answer
 unfoldable pub headed_answer : NetData → Headed → Outcome

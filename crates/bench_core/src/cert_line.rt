@@ -15,7 +15,7 @@ const FARTHEST: i64 = 1 << 62;
 /// The entry that `part NAME LO HI ERR` says, where `k` parts stand above.
 #[tactic(auto, unfolding(crate::specs::CertificateText::part_line))]
 pub fn part_line(net: &Network, k: usize, line: &[u8]) -> Result<Bounds, CertKind>
-    ensures { result ≡ part_line net.now.wires k (words_of line.now) }
+    ensures { result ≡ part_line net.now k (words_of line.now) }
 {
     let is_part = is_literal(word_at(line, 0), b"part") && count_words(line) == 5;
     demand!(is_part, CertKind::BadLine);
@@ -29,7 +29,7 @@ pub fn part_line(net: &Network, k: usize, line: &[u8]) -> Result<Bounds, CertKin
 
 // Whether the name is that of the part behind the `k` that stand above.
 fn names_next(net: &Network, k: usize, name: &[u8]) -> bool
-    ensures { result ≡ names_next net.now.wires k name.now }
+    ensures { result ≡ names_next net.now k name.now }
 {
     k < net.parts().len() && name_at(net, k) == name
 }

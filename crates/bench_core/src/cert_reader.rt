@@ -18,7 +18,7 @@ use text_words::{behind_head, count_words, next_line};
 /// is looked at until the first that has a fault. Where memory runs out, nothing is said of the text.
 pub fn read_certificate(alloc: Global, net: &Network, text: &[u8]) -> Result<Certificate, CertError>
     requires { length text.now < 2 ^ 32 }
-    ensures reads { ReadsCertificate net.now.wires text.now result }
+    ensures reads { ReadsCertificate net.now text.now result }
     ensures complete { IfOk result (λ cert. length cert ≡ length (parts_of net.now.wires)) }
 {
     let entries = read_entries(alloc, net, text)?;
@@ -32,7 +32,7 @@ pub fn read_certificate(alloc: Global, net: &Network, text: &[u8]) -> Result<Cer
 #[tactic(auto, unfolding(crate::specs::CertificateText::certificate_of, text_words::specs::Readers::said_by))]
 fn read_entries(alloc: Global, net: &Network, text: &[u8]) -> Result<Vec<Bounds>, CertError>
     requires { length text.now < 2 ^ 32 }
-    ensures reads { ReadsCertificate net.now.wires text.now
+    ensures reads { ReadsCertificate net.now text.now
         (result_map_both vec_items (λ error. error) result) }
     ensures complete { IfOk result (λ v. length v.items ≡ length (parts_of net.now.wires)) }
     ensures few { IfOk result (λ v. length v.items < 2 ^ 32) }
@@ -54,7 +54,7 @@ fn entries_below(
     lines: &[u8],
 ) -> Result<Vec<Bounds>, CertError>
     requires { head + length lines.now < 2 ^ 32 }
-    ensures reads { GivesEntries (read_below (certificate_reader net.now.wires) head [] (lines_from lines.now))
+    ensures reads { GivesEntries (read_below (certificate_reader net.now) head [] (lines_from lines.now))
         (result_map_both vec_items (λ error. error) result) }
     ensures complete { IfOk result (λ v. length v.items ≡ length (parts_of net.now.wires)) }
     ensures few { IfOk result (λ v. length v.items < 2 ^ 32) }

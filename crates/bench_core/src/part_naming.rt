@@ -7,7 +7,7 @@ use net_model::{Network, PartNo};
 /// The name of a part in texts: its wire's.
 pub fn part_name(net: &Network, part: PartNo) -> &[u8]
     requires { part.0 < length (parts_of net.now.wires) }
-    ensures { result.now ≡ part_name net.now.wires part.0 }
+    ensures { result.now ≡ part_name net.now part.0 }
 {
     name_at(net, part.0 as usize)
 }
@@ -16,7 +16,7 @@ pub fn part_name(net: &Network, part: PartNo) -> &[u8]
 #[tactic(auto, using(crate::proofs::PartPlaces::part_steps))]
 pub fn name_at(net: &Network, k: usize) -> &[u8]
     requires { k < length (parts_of net.now.wires) }
-    ensures { result.now ≡ part_name net.now.wires k }
+    ensures { result.now ≡ part_name net.now k }
 {
     let part = net.parts()[k];
     net.wires()[part.wire.0 as usize].name.bytes()

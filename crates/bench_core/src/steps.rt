@@ -89,7 +89,7 @@ pub(crate) fn certificate_of_text(
     text: &[u8],
 ) -> Result<Certificate, Ending>
     requires { length text.now < 2 ^ 32 }
-    ensures made { Makes (λ c. c) (certificate_in network.now.wires name.now text.now) result }
+    ensures made { Makes (λ c. c) (certificate_in network.now name.now text.now) result }
     ensures complete { IfOk result (λ cert. length cert ≡ length (parts_of network.now.wires)) }
 {
     match read_certificate(alloc, network, text) {
@@ -107,7 +107,7 @@ pub(crate) fn accept(
     certificate: &Certificate,
 ) -> Result<(), Ending>
     requires { length certificate.now ≡ length (parts_of network.now.wires) }
-    ensures { Makes (λ _. tt) (acceptance network.now.wires certificate.now) result }
+    ensures { Makes (λ _. tt) (acceptance network.now certificate.now) result }
 {
     match rejected_part(network, certificate.bounds()) {
         None => Ok(()),

@@ -10,13 +10,12 @@ use Rattle.net_model.specs.Built.{is_built}
 use Rattle.net_model.specs.declared.wires.Block.TheVariants.{Arith, Scaled}
 use Rattle.net_model.specs.declared.wires.Item.{Item}
 use Rattle.net_model.specs.declared.wires.Item.TheVariants.{Input, Const, Block as OfBlock}
-use Rattle.net_model.specs.declared.wires.Wire.{Wire}
 use Rattle.net_model.specs.Wires.{NetData, wire_at, parts_of}
 use Rattle.net_model.specs.Validity.{IsValid}
 use Rattle.net_model.specs.Smooth.{is_smooth, IsSmooth}
 use Rattle.net_model.proofs.ValidityFacts.{arith-valid}
 use Rattle.mfx_arith.specs.Operations.{is_smooth_operation}
-use Rattle.cert_rules.specs.declared.bounds.Bounds.{Bounds}
+use Rattle.part_rules.specs.declared.bounds.Bounds.{Bounds}
 use Rattle.cert_rules.specs.Acceptance.{Accepts, is_allowed_at, is_inductive_at, first_failing, or_later, first_rejected}
 use Rattle.cert_rules.specs.Theorem.{AcceptsExactly, AllAreSmooth}
 
@@ -61,26 +60,26 @@ neither : (a b : Option ℕ) → or_later a b ≡ None → (a ≡ None) × (b �
 neither (Some k) b h = (h, absurd (some_is_not_none k h))
 neither None b h = (refl, h)
 
-pub accepts_from_none_rejected : (wires : List Wire) (entries : List Bounds) → IsSmooth wires → length entries ≡ length (parts_of wires) → first_rejected wires entries ≡ None → Accepts wires entries
+pub accepts_from_none_rejected : (net : NetData) (entries : List Bounds) → IsSmooth net.wires → length entries ≡ length (parts_of net.wires) → first_rejected net entries ≡ None → Accepts net entries
 unfolding first_rejected
-accepts_from_none_rejected wires entries smooth complete h =
-    let both = neither (first_failing (is_allowed_at wires entries) 0 (length (parts_of wires))) (first_failing (is_inductive_at wires entries) 0 (length (parts_of wires))) h in
+accepts_from_none_rejected net entries smooth complete h =
+    let both = neither (first_failing (is_allowed_at net entries) 0 (length (parts_of net.wires))) (first_failing (is_inductive_at net entries) 0 (length (parts_of net.wires))) h in
     record {
       smooth = smooth;
       complete = complete;
-      allowed = λ k l. all_pass (is_allowed_at wires entries) (length (parts_of wires)) 0 both.0 k (omega arith) (omega arith);
-      inductive = λ k l. all_pass (is_inductive_at wires entries) (length (parts_of wires)) 0 both.1 k (omega arith) (omega arith);
+      allowed = λ k l. all_pass (is_allowed_at net entries) (length (parts_of net.wires)) 0 both.0 k (omega arith) (omega arith);
+      inductive = λ k l. all_pass (is_inductive_at net entries) (length (parts_of net.wires)) 0 both.1 k (omega arith) (omega arith);
     }
 
-pub none_rejected_from_accepts : (wires : List Wire) (entries : List Bounds) → Accepts wires entries → first_rejected wires entries ≡ None
+pub none_rejected_from_accepts : (net : NetData) (entries : List Bounds) → Accepts net entries → first_rejected net entries ≡ None
 unfolding first_rejected
-none_rejected_from_accepts wires entries a =
-    let allowed = none_fails (is_allowed_at wires entries) (length (parts_of wires)) 0 (λ i p q. a.allowed i (omega arith)) in
-    let inductive = none_fails (is_inductive_at wires entries) (length (parts_of wires)) 0 (λ i p q. a.inductive i (omega arith)) in
-    ap (λ o. or_later o (first_failing (is_inductive_at wires entries) 0 (length (parts_of wires)))) allowed ∙ inductive
+none_rejected_from_accepts net entries a =
+    let allowed = none_fails (is_allowed_at net entries) (length (parts_of net.wires)) 0 (λ i p q. a.allowed i (omega arith)) in
+    let inductive = none_fails (is_inductive_at net entries) (length (parts_of net.wires)) 0 (λ i p q. a.inductive i (omega arith)) in
+    ap (λ o. or_later o (first_failing (is_inductive_at net entries) 0 (length (parts_of net.wires)))) allowed ∙ inductive
 
 pub accepts_exactly : AcceptsExactly
-accepts_exactly wires entries smooth complete = (accepts_from_none_rejected wires entries smooth complete, none_rejected_from_accepts wires entries)
+accepts_exactly net entries smooth complete = (accepts_from_none_rejected net entries smooth complete, none_rejected_from_accepts net entries)
 
 -- ---- smoothness
 

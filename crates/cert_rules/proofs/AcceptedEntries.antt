@@ -6,11 +6,11 @@ use Rattle.fx_fraction.specs.Fraction.{Fraction, whole, over, distance}
 use Rattle.fx_fraction.proofs.Order.{AtMost_trans, AtMost-over}
 use Rattle.fx_fraction.proofs.WholeNumbers.{int_le-true, int_le_trans}
 use Rattle.net_model.specs.declared.wires.Role.TheVariants.{Value}
-use Rattle.net_model.specs.declared.wires.Wire.{Wire}
 use Rattle.net_model.specs.Wires.{NetData, wire_at, parts_of, place_in, kind_least, kind_greatest}
 use Rattle.net_model.proofs.ValidityFacts.{has_role-value}
-use Rattle.cert_rules.specs.declared.bounds.Bounds.{Bounds}
-use Rattle.cert_rules.specs.Certificates.{IsWithin, entry_of, no_bounds}
+use Rattle.part_rules.specs.declared.bounds.Bounds.{Bounds}
+use Rattle.part_rules.specs.Within.{IsWithin, no_bounds}
+use Rattle.cert_rules.specs.Certificates.{entry_of}
 use Rattle.cert_rules.specs.Rules.{rule_of}
 use Rattle.cert_rules.specs.Acceptance.{Accepts, is_inductive_at, is_inductive_entry, lies_inside, starts_inside, start_of}
 use Rattle.cert_rules.proofs.EntryFacts.{are_between}
@@ -51,20 +51,20 @@ given_of (Some b) entry h =
 -- the entry of a wire's value: its rule gives bounds, and these lie in the kind and within the entry
 pub record EntryHolds (net : NetData) (entries : List Bounds) (i : ℕ) : Type 0 where
   pub bounds : Bounds
-  pub rules : rule_of net.wires i Value (entry_of net.wires entries) ≡ Some bounds
+  pub rules : rule_of net i Value (entry_of net entries) ≡ Some bounds
   pub least : kind_least (wire_at net.wires i).kind ≤ℤ bounds.lo
   pub greatest : bounds.hi ≤ℤ kind_greatest (wire_at net.wires i).kind
-  pub inside : IsInside bounds (entry_of net.wires entries i Value)
+  pub inside : IsInside bounds (entry_of net entries i Value)
 
-inductive_entry : (wires : List Wire) (entries : List Bounds) (i : ℕ) → Accepts wires entries → i < length wires → IsTrue (is_inductive_entry wires entries (part_of i Value) (entry_of wires entries i Value))
+inductive_entry : (net : NetData) (entries : List Bounds) (i : ℕ) → Accepts net entries → i < length net.wires → IsTrue (is_inductive_entry net entries (part_of i Value) (entry_of net entries i Value))
 unfolding is_inductive_at entry_of
-inductive_entry wires entries i accepts h =
-    let p = has_place wires i Value h (has_role-value (wire_at wires i).item) in
-    subst (λ part. IsTrue (is_inductive_entry wires entries part (get_or entries (place_in i Value (parts_of wires)) no_bounds))) p.there (accepts.inductive (place_in i Value (parts_of wires)) p.below)
+inductive_entry net entries i accepts h =
+    let p = has_place net i Value h (has_role-value (wire_at net.wires i).item) in
+    subst (λ part. IsTrue (is_inductive_entry net entries part (get_or entries (place_in i Value (parts_of net.wires)) no_bounds))) p.there (accepts.inductive (place_in i Value (parts_of net.wires)) p.below)
 
-pub entry_holds : (net : NetData) (entries : List Bounds) (i : ℕ) → Accepts net.wires entries → i < length net.wires → EntryHolds net entries i
+pub entry_holds : (net : NetData) (entries : List Bounds) (i : ℕ) → Accepts net entries → i < length net.wires → EntryHolds net entries i
 entry_holds net entries i accepts h =
-    let entry = entry_of net.wires entries i Value in
-    let given = given_of (rule_of net.wires i Value (entry_of net.wires entries)) entry (and_parts (starts_inside (start_of (wire_at net.wires i).item Value) entry) (lies_inside (rule_of net.wires i Value (entry_of net.wires entries)) entry) (inductive_entry net.wires entries i accepts h)).1 in
+    let entry = entry_of net entries i Value in
+    let given = given_of (rule_of net i Value (entry_of net entries)) entry (and_parts (starts_inside (start_of (wire_at net.wires i).item Value) entry) (lies_inside (rule_of net i Value (entry_of net entries)) entry) (inductive_entry net entries i accepts h)).1 in
     let ends = are_between (wire_at net.wires i).kind given.bounds (wire_is_ruled net entries i given.bounds given.is).allowed in
     record { bounds = given.bounds; rules = given.is; least = ends.low; greatest = ends.high; inside = given.inside }

@@ -12,7 +12,6 @@ use Rattle.net_model.specs.declared.wires.Item.{Item}
 use Rattle.net_model.specs.declared.wires.Item.TheVariants.{Input, Const, Block as OfBlock}
 use Rattle.net_model.specs.declared.wires.Role.{Role}
 use Rattle.net_model.specs.declared.wires.Role.TheVariants.{Value}
-use Rattle.net_model.specs.declared.wires.Wire.{Wire}
 use Rattle.net_model.specs.Wires.{NetData, wire_at, argument_of, parts_of}
 use Rattle.net_model.specs.Validity.{IsValid}
 use Rattle.net_model.proofs.ValidityFacts.{argument_of-valid, get_or-parts_of, length-parts_of, value_part}
@@ -20,9 +19,9 @@ use Rattle.net_meaning.specs.Blocks.{points_of}
 use Rattle.fx_core.specs.Arguments.{three, two}
 use Rattle.mfx_arith.specs.Operations.{arith_arity, is_smooth_operation}
 use Rattle.mfx_scaled.specs.Operations.{scaled_arity}
-use Rattle.cert_rules.specs.declared.bounds.Bounds.{Bounds}
-use Rattle.cert_rules.specs.ArithRules.{arith_bounds, arith_may_divide_by_zero, arith_values}
-use Rattle.cert_rules.specs.ScaledRules.{scaled_bounds, scaled_may_divide_by_zero, scaled_values}
+use Rattle.part_rules.specs.declared.bounds.Bounds.{Bounds}
+use Rattle.mfx_rules.specs.ArithRules.{arith_bounds, arith_may_divide_by_zero, arith_values}
+use Rattle.mfx_rules.specs.ScaledRules.{scaled_bounds, scaled_may_divide_by_zero, scaled_values}
 use Rattle.cert_rules.specs.Rules.{allowed_of, arguments_of, has_no_rule, proposed, rule_of}
 use Rattle.cert_rules.specs.Acceptance.{part_at}
 use Rattle.cert_rules.specs.Arguments.{AgreeFor, RulesReadTheirArguments, arity_of}
@@ -136,34 +135,34 @@ no_rule_same (OfBlock (Arith op v x y z sh)) one other same =
 no_rule_same (OfBlock (Scaled op v x y)) one other same =
     form_divisor_same op (arguments_of (Scaled op v x y) one) (arguments_of (Scaled op v x y) other) (same (Scaled op v x y) refl)
 
-proposed_same : (wires : List Wire) (kind : Kind) (item : Item) (one other : ℕ → Bounds) → SameFor item one other → proposed wires kind item one ≡ proposed wires kind item other
+proposed_same : (net : NetData) (kind : Kind) (item : Item) (one other : ℕ → Bounds) → SameFor item one other → proposed net kind item one ≡ proposed net kind item other
 unfolding proposed
-proposed_same wires kind (Input lo hi) one other same = refl
-proposed_same wires kind (Const value) one other same = refl
-proposed_same wires kind (OfBlock (Arith op v x y z sh)) one other same =
+proposed_same net kind (Input lo hi) one other same = refl
+proposed_same net kind (Const value) one other same = refl
+proposed_same net kind (OfBlock (Arith op v x y z sh)) one other same =
     bounds_same op sh (arguments_of (Arith op v x y z sh) one) (arguments_of (Arith op v x y z sh) other) (same (Arith op v x y z sh) refl)
-proposed_same wires kind (OfBlock (Scaled op v x y)) one other same =
-    form_bounds_same op (points_of wires kind (Scaled op v x y)) (arguments_of (Scaled op v x y) one) (arguments_of (Scaled op v x y) other) (same (Scaled op v x y) refl)
+proposed_same net kind (OfBlock (Scaled op v x y)) one other same =
+    form_bounds_same op (points_of net kind (Scaled op v x y)) (arguments_of (Scaled op v x y) one) (arguments_of (Scaled op v x y) other) (same (Scaled op v x y) refl)
 
-rule_same : (wires : List Wire) (i : ℕ) (one other : ℕ → Role → Bounds) → SameFor (wire_at wires i).item (λ w. one w Value) (λ w. other w Value) → rule_of wires i Value one ≡ rule_of wires i Value other
+rule_same : (net : NetData) (i : ℕ) (one other : ℕ → Role → Bounds) → SameFor (wire_at net.wires i).item (λ w. one w Value) (λ w. other w Value) → rule_of net i Value one ≡ rule_of net i Value other
 unfolding rule_of
-rule_same wires i one other same =
-    let w = wire_at wires i in
-    ap (λ (t : Bool). allowed_of w.kind Value (cond t None (Some (proposed wires w.kind w.item (λ k. one k Value))))) (no_rule_same w.item (λ k. one k Value) (λ k. other k Value) same)
-    ∙ ap (λ (b : Bounds). allowed_of w.kind Value (cond (has_no_rule w.item (λ k. other k Value)) None (Some b))) (proposed_same wires w.kind w.item (λ k. one k Value) (λ k. other k Value) same)
+rule_same net i one other same =
+    let w = wire_at net.wires i in
+    ap (λ (t : Bool). allowed_of w.kind Value (cond t None (Some (proposed net w.kind w.item (λ k. one k Value))))) (no_rule_same w.item (λ k. one k Value) (λ k. other k Value) same)
+    ∙ ap (λ (b : Bounds). allowed_of w.kind Value (cond (has_no_rule w.item (λ k. other k Value)) None (Some b))) (proposed_same net w.kind w.item (λ k. one k Value) (λ k. other k Value) same)
 
 -- ---- each argument of a block is a part that is read
 
-same_arguments : (net : NetData) → IsValid net → (p : ℕ) → p < length net.wires → (one other : ℕ → Role → Bounds) → AgreeFor net.wires p one other → SameFor (wire_at net.wires p).item (λ w. one w Value) (λ w. other w Value)
+same_arguments : (net : NetData) → IsValid net → (p : ℕ) → p < length net.wires → (one other : ℕ → Role → Bounds) → AgreeFor net p one other → SameFor (wire_at net.wires p).item (λ w. one w Value) (λ w. other w Value)
 same_arguments net valid p there one other agree b is q few =
     let below : argument_of b q < p = argument_of-valid net p b valid there is q in
     let in_wires : argument_of b q < length net.wires = omega arith in
     let in_parts : argument_of b q < length (parts_of net.wires) = rw (length-parts_of net.wires) in_wires in
-    let here : part_at net.wires (argument_of b q) ≡ value_part (argument_of b q) = get_or-parts_of net.wires (argument_of b q) in_wires in
-    let read = reads_at-now net.wires p (argument_of b q) (reads_there net.wires p (argument_of b q) b (get_or-parts_of net.wires p there) here is (among b (arity_of b) q few)) in
+    let here : part_at net (argument_of b q) ≡ value_part (argument_of b q) = get_or-parts_of net.wires (argument_of b q) in_wires in
+    let read = reads_at-now net p (argument_of b q) (reads_there net p (argument_of b q) b (get_or-parts_of net.wires p there) here is (among b (arity_of b) q few)) in
     rw here at (agree (argument_of b q) in_parts read)
 
 pub rules_read_their_arguments : RulesReadTheirArguments
 rules_read_their_arguments net valid p h one other agree =
     let there : p < length net.wires = rw (length-parts_of net.wires) at h in
-    rw (get_or-parts_of net.wires p there) (rule_same net.wires p one other (same_arguments net valid p there one other agree))
+    rw (get_or-parts_of net.wires p there) (rule_same net p one other (same_arguments net valid p there one other agree))

@@ -67,7 +67,7 @@ number_fits net k parts valid e h =
 
 -- ---- the test of one part
 
-pub reads_at-is : (wires : List Wire) (p k : ℕ) (part other : Part) (item : Item) (r : Bool) → part ≡ part_at wires p → item ≡ (wire_at wires part.wire.0).item → other ≡ part_at wires k → ((ruled : Part) → r ≡ reads item ruled other) → r ≡ reads_at wires p k
+pub reads_at-is : (net : NetData) (p k : ℕ) (part other : Part) (item : Item) (r : Bool) → part ≡ part_at net p → item ≡ (wire_at net.wires part.wire.0).item → other ≡ part_at net k → ((ruled : Part) → r ≡ reads item ruled other) → r ≡ reads_at net p k
 unfolding reads_at
-reads_at-is wires p k part other item r e f g is =
-    is part ∙ ap (λ (t : Item). reads t part other) f ∙ ap (λ (t : Part). reads (wire_at wires t.wire.0).item t other) e ∙ ap (reads (wire_at wires (part_at wires p).wire.0).item (part_at wires p)) g
+reads_at-is net p k part other item r e f g is =
+    is part ∙ ap (λ (t : Item). reads t part other) f ∙ ap (λ (t : Part). reads (wire_at net.wires t.wire.0).item t other) e ∙ ap (reads (wire_at net.wires (part_at net p).wire.0).item (part_at net p)) g

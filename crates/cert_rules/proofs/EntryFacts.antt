@@ -11,21 +11,21 @@ use Rattle.net_model.specs.declared.wires.Kind.TheVariants.{Num, Truth}
 use Rattle.net_model.specs.declared.wires.Role.{Role}
 use Rattle.net_model.specs.declared.wires.Role.TheVariants.{Value}
 use Rattle.net_model.specs.declared.wires.Part.{Part}
-use Rattle.net_model.specs.declared.wires.Wire.{Wire}
 use Rattle.net_model.specs.Wires.{NetData, wire_at, kind_least, kind_greatest, point_of, parts_of}
 use Rattle.net_model.specs.Validity.{IsValid}
 use Rattle.net_model.proofs.ValidityFacts.{get_or-parts_of, length-parts_of, place_in-parts_of, point_of-valid}
-use Rattle.cert_rules.specs.declared.bounds.Bounds.{Bounds}
-use Rattle.cert_rules.specs.Certificates.{no_bounds, entry_of}
+use Rattle.part_rules.specs.declared.bounds.Bounds.{Bounds}
+use Rattle.part_rules.specs.Within.{no_bounds}
+use Rattle.cert_rules.specs.Certificates.{entry_of}
 use Rattle.cert_rules.specs.Rules.{is_allowed, is_between_ends, part_least, part_greatest}
 use Rattle.cert_rules.specs.Acceptance.{AreAllowed, is_allowed_at, part_at, entry_at}
-use Rattle.cert_rules.specs.Entries.{IsSmall}
+use Rattle.part_rules.specs.Entries.{IsSmall}
 
 -- ---- the entry of a wire's value has the wire's number
 
-pub entry_of-value : (wires : List Wire) (entries : List Bounds) (w : ℕ) → w < length wires → entry_of wires entries w Value ≡ entry_at entries w
+pub entry_of-value : (net : NetData) (entries : List Bounds) (w : ℕ) → w < length net.wires → entry_of net entries w Value ≡ entry_at entries w
 unfolding entry_of
-entry_of-value wires entries w h = ap (λ k. get_or entries k no_bounds) (place_in-parts_of wires w h)
+entry_of-value net entries w h = ap (λ k. get_or entries k no_bounds) (place_in-parts_of net.wires w h)
 
 -- ---- allowed entries are small
 
@@ -88,31 +88,31 @@ small_from_tests kind Value b h order positive =
       near = int_lt-true b.err (pos (2 ^ 40)) t.near;
     }
 
-pub small_from_allowed : (wires : List Wire) (entries : List Bounds) (k : ℕ) → is_allowed_at wires entries k ≡ true → IsSmall (entry_at entries k)
+pub small_from_allowed : (net : NetData) (entries : List Bounds) (k : ℕ) → is_allowed_at net entries k ≡ true → IsSmall (entry_at entries k)
 unfolding is_allowed_at
-small_from_allowed wires entries k h =
+small_from_allowed net entries k h =
     let t = three_tests _ _ _ h in
     small_from_tests _ _ (entry_at entries k) t.0 t.1 t.2
 
-pub small_entry : (wires : List Wire) (entries : List Bounds) → AreAllowed wires entries → (w : ℕ) → w < length wires → IsSmall (entry_at entries w)
-small_entry wires entries allowed w h =
-    small_from_allowed wires entries w (allowed w (rw (length-parts_of wires) h))
+pub small_entry : (net : NetData) (entries : List Bounds) → AreAllowed net entries → (w : ℕ) → w < length net.wires → IsSmall (entry_at entries w)
+small_entry net entries allowed w h =
+    small_from_allowed net entries w (allowed w (rw (length-parts_of net.wires) h))
 
 -- an allowed entry isn't below its wire's kind
 low_from_tests : (kind : Kind) (role : Role) (b : Bounds) → is_allowed kind role b ≡ true → kind_least kind ≤ℤ b.lo
 low_from_tests kind Value b h = (are_between kind b h).low
 
-low_from_allowed : (wires : List Wire) (entries : List Bounds) (k : ℕ) → is_allowed_at wires entries k ≡ true → kind_least (wire_at wires (part_at wires k).wire.0).kind ≤ℤ (entry_at entries k).lo
+low_from_allowed : (net : NetData) (entries : List Bounds) (k : ℕ) → is_allowed_at net entries k ≡ true → kind_least (wire_at net.wires (part_at net k).wire.0).kind ≤ℤ (entry_at entries k).lo
 unfolding is_allowed_at
-low_from_allowed wires entries k h =
+low_from_allowed net entries k h =
     let t = three_tests _ _ _ h in
     low_from_tests _ _ (entry_at entries k) t.0
 
-pub entry_low : (wires : List Wire) (entries : List Bounds) → AreAllowed wires entries → (w : ℕ) → w < length wires → kind_least (wire_at wires w).kind ≤ℤ (entry_of wires entries w Value).lo
-entry_low wires entries allowed w h =
-    let low = low_from_allowed wires entries w (allowed w (rw (length-parts_of wires) h)) in
-    let at_wire : kind_least (wire_at wires w).kind ≤ℤ (entry_at entries w).lo = subst (λ (p : Part). kind_least (wire_at wires p.wire.0).kind ≤ℤ (entry_at entries w).lo) (get_or-parts_of wires w h) low in
-    rw (entry_of-value wires entries w h) at_wire
+pub entry_low : (net : NetData) (entries : List Bounds) → AreAllowed net entries → (w : ℕ) → w < length net.wires → kind_least (wire_at net.wires w).kind ≤ℤ (entry_of net entries w Value).lo
+entry_low net entries allowed w h =
+    let low = low_from_allowed net entries w (allowed w (rw (length-parts_of net.wires) h)) in
+    let at_wire : kind_least (wire_at net.wires w).kind ≤ℤ (entry_at entries w).lo = subst (λ (p : Part). kind_least (wire_at net.wires p.wire.0).kind ≤ℤ (entry_at entries w).lo) (get_or-parts_of net.wires w h) low in
+    rw (entry_of-value net entries w h) at_wire
 
 -- the tests of bounds, whatever the role
 pub allowed_from_tests : (kind : Kind) (role : Role) (b : Bounds) (least greatest : ℤ) (t : Bool) → FitsSigned w64 least → FitsSigned w64 greatest → least ≡ part_least kind Value → greatest ≡ part_greatest kind Value → t ≡ ((int_le (to_z w64 (of_z w64 least)) b.lo && int_le b.lo (to_z w64 (of_z w64 greatest))) && (int_le (to_z w64 (of_z w64 least)) b.hi && int_le b.hi (to_z w64 (of_z w64 greatest))) && int_lt b.err (pos (2 ^ 40))) → t ≡ is_allowed kind role b
@@ -122,10 +122,10 @@ allowed_from_tests kind Value b least greatest t f g p q e =
     rw (p, q) at plain
 
 -- the part of a number stands on a wire
-pub part_at-wire : (wires : List Wire) (k : ℕ) → k < length (parts_of wires) → (part_at wires k).wire.0 < length wires
-part_at-wire wires k h =
-    let there : k < length wires = rw (length-parts_of wires) at h in
-    rw (get_or-parts_of wires k there) there
+pub part_at-wire : (net : NetData) (k : ℕ) → k < length (parts_of net.wires) → (part_at net k).wire.0 < length net.wires
+part_at-wire net k h =
+    let there : k < length net.wires = rw (length-parts_of net.wires) at h in
+    rw (get_or-parts_of net.wires k there) there
 
 -- a point that was read
 pub point-valid : (net : NetData) (i : ℕ) (kind : Kind) (point : ℕ) (ty : Ty) → IsValid net → i < length net.wires → kind ≡ (wire_at net.wires i).kind → kind ≡ Num ty point → point ≤ 15

@@ -6,12 +6,11 @@ use Rattle.net_model.specs.declared.wires.Item.{Item}
 use Rattle.net_model.specs.declared.wires.Item.TheVariants.{Input, Const, Block as OfBlock}
 use Rattle.net_model.specs.declared.wires.Role.{Role}
 use Rattle.net_model.specs.declared.wires.Role.TheVariants.{Value}
-use Rattle.net_model.specs.declared.wires.Wire.{Wire}
 use Rattle.net_model.specs.Wires.{NetData, wire_at, parts_of}
 use Rattle.net_model.specs.Validity.{IsValid}
 use Rattle.net_model.proofs.ValidityFacts.{length-parts_of, length-valid}
 use Rattle.fx_core.proofs.WordSteps.{word_of}
-use Rattle.cert_rules.specs.declared.bounds.Bounds.{Bounds}
+use Rattle.part_rules.specs.declared.bounds.Bounds.{Bounds}
 use Rattle.cert_rules.specs.Certificates.{entry_of}
 use Rattle.cert_rules.specs.Rules.{is_allowed, rule_of}
 use Rattle.cert_rules.specs.Acceptance.{AreAllowed, entry_at, first_failing, first_rejected, is_inductive_at, is_allowed_at, lies_inside, or_later, part_at, start_of, starts_inside}
@@ -58,22 +57,22 @@ all_pass_from test k (suc m) i e h l =
     none_case test k m i (test k) refl (sym (first_failing-step test k m) ∙ e) (λ f g. let up : suc k ≤ i = omega arith in let end : i < suc k + m = omega arith in all_pass_from test (suc k) m i f up end) h
 
 -- where no entry fails the first test each is allowed
-pub allowed_from_none : (wires : List Wire) (entries : List Bounds) (found : Option PartNo) → option_map (λ p. p.0) found ≡ first_failing (is_allowed_at wires entries) 0 (length (parts_of wires)) → found ≡ None → AreAllowed wires entries
-allowed_from_none wires entries found e none k h =
-    let nothing : first_failing (is_allowed_at wires entries) 0 (length (parts_of wires)) ≡ None = sym e ∙ ap (option_map (λ (p : PartNo). p.0)) none in
-    all_pass_from (is_allowed_at wires entries) 0 (length (parts_of wires)) k nothing (omega arith) (omega arith)
+pub allowed_from_none : (net : NetData) (entries : List Bounds) (found : Option PartNo) → option_map (λ p. p.0) found ≡ first_failing (is_allowed_at net entries) 0 (length (parts_of net.wires)) → found ≡ None → AreAllowed net entries
+allowed_from_none net entries found e none k h =
+    let nothing : first_failing (is_allowed_at net entries) 0 (length (parts_of net.wires)) ≡ None = sym e ∙ ap (option_map (λ (p : PartNo). p.0)) none in
+    all_pass_from (is_allowed_at net entries) 0 (length (parts_of net.wires)) k nothing (omega arith) (omega arith)
 
 -- ---- the two searches in turn
 
-pub rejected_first : (wires : List Wire) (entries : List Bounds) (found : Option PartNo) (k : PartNo) → option_map (λ p. p.0) found ≡ first_failing (is_allowed_at wires entries) 0 (length (parts_of wires)) → found ≡ Some k → Some k.0 ≡ first_rejected wires entries
+pub rejected_first : (net : NetData) (entries : List Bounds) (found : Option PartNo) (k : PartNo) → option_map (λ p. p.0) found ≡ first_failing (is_allowed_at net entries) 0 (length (parts_of net.wires)) → found ≡ Some k → Some k.0 ≡ first_rejected net entries
 unfolding first_rejected
-rejected_first wires entries found k e is =
-    ap (λ t. or_later t (first_failing (is_inductive_at wires entries) 0 (length (parts_of wires)))) (sym (ap (option_map (λ (p : PartNo). p.0)) is) ∙ e)
+rejected_first net entries found k e is =
+    ap (λ t. or_later t (first_failing (is_inductive_at net entries) 0 (length (parts_of net.wires)))) (sym (ap (option_map (λ (p : PartNo). p.0)) is) ∙ e)
 
-pub rejected_later : (wires : List Wire) (entries : List Bounds) (found later : Option PartNo) → option_map (λ p. p.0) found ≡ first_failing (is_allowed_at wires entries) 0 (length (parts_of wires)) → found ≡ None → option_map (λ p. p.0) later ≡ first_failing (is_inductive_at wires entries) 0 (length (parts_of wires)) → option_map (λ p. p.0) later ≡ first_rejected wires entries
+pub rejected_later : (net : NetData) (entries : List Bounds) (found later : Option PartNo) → option_map (λ p. p.0) found ≡ first_failing (is_allowed_at net entries) 0 (length (parts_of net.wires)) → found ≡ None → option_map (λ p. p.0) later ≡ first_failing (is_inductive_at net entries) 0 (length (parts_of net.wires)) → option_map (λ p. p.0) later ≡ first_rejected net entries
 unfolding first_rejected
-rejected_later wires entries found later e is f =
-    f ∙ ap (λ t. or_later t (first_failing (is_inductive_at wires entries) 0 (length (parts_of wires)))) (sym (ap (option_map (λ (p : PartNo). p.0)) is) ∙ e)
+rejected_later net entries found later e is f =
+    f ∙ ap (λ t. or_later t (first_failing (is_inductive_at net entries) 0 (length (parts_of net.wires)))) (sym (ap (option_map (λ (p : PartNo). p.0)) is) ∙ e)
 
 -- ---- the second test
 
@@ -83,10 +82,10 @@ none_starts (Const value) Value = refl
 none_starts (OfBlock b) Value = refl
 
 -- a part is inductive where its rule's bounds lie within its entry
-pub inductive_is : (wires : List Wire) (entries : List Bounds) (k : ℕ) → is_inductive_at wires entries k ≡ lies_inside (rule_of wires (part_at wires k).wire.0 (part_at wires k).role (entry_of wires entries)) (entry_at entries k)
+pub inductive_is : (net : NetData) (entries : List Bounds) (k : ℕ) → is_inductive_at net entries k ≡ lies_inside (rule_of net (part_at net k).wire.0 (part_at net k).role (entry_of net entries)) (entry_at entries k)
 unfolding is_inductive_at
-inductive_is wires entries k =
-    ap (λ s. starts_inside s (entry_at entries k) && lies_inside (rule_of wires (part_at wires k).wire.0 (part_at wires k).role (entry_of wires entries)) (entry_at entries k)) (none_starts (wire_at wires (part_at wires k).wire.0).item (part_at wires k).role)
+inductive_is net entries k =
+    ap (λ s. starts_inside s (entry_at entries k) && lies_inside (rule_of net (part_at net k).wire.0 (part_at net k).role (entry_of net entries)) (entry_at entries k)) (none_starts (wire_at net.wires (part_at net k).wire.0).item (part_at net k).role)
 
 -- the number of parts is a word
 pub count_fits : (net : NetData) → IsValid net → Fits w32 (length (parts_of net.wires))
@@ -96,23 +95,23 @@ count_fits net valid =
 
 -- ---- the two tests of a part
 
-pub allowed_when : (wires : List Wire) (entries : List Bounds) (k : ℕ) (t p : Bool) → t ≡ is_allowed (wire_at wires (part_at wires k).wire.0).kind (part_at wires k).role (entry_at entries k) → t ≡ true → p ≡ (int_le (entry_at entries k).lo (entry_at entries k).hi && int_le (pos 0) (entry_at entries k).err) → p ≡ is_allowed_at wires entries k
+pub allowed_when : (net : NetData) (entries : List Bounds) (k : ℕ) (t p : Bool) → t ≡ is_allowed (wire_at net.wires (part_at net k).wire.0).kind (part_at net k).role (entry_at entries k) → t ≡ true → p ≡ (int_le (entry_at entries k).lo (entry_at entries k).hi && int_le (pos 0) (entry_at entries k).err) → p ≡ is_allowed_at net entries k
 unfolding is_allowed_at
-allowed_when wires entries k t p e passed f =
+allowed_when net entries k t p e passed f =
     f ∙ ap (λ a. a && int_le (entry_at entries k).lo (entry_at entries k).hi && int_le (pos 0) (entry_at entries k).err) (sym passed ∙ e)
 
-pub allowed_not : (wires : List Wire) (entries : List Bounds) (k : ℕ) (t : Bool) → t ≡ is_allowed (wire_at wires (part_at wires k).wire.0).kind (part_at wires k).role (entry_at entries k) → t ≡ false → t ≡ is_allowed_at wires entries k
+pub allowed_not : (net : NetData) (entries : List Bounds) (k : ℕ) (t : Bool) → t ≡ is_allowed (wire_at net.wires (part_at net k).wire.0).kind (part_at net k).role (entry_at entries k) → t ≡ false → t ≡ is_allowed_at net entries k
 unfolding is_allowed_at
-allowed_not wires entries k t e failed =
+allowed_not net entries k t e failed =
     failed ∙ ap (λ a. a && int_le (entry_at entries k).lo (entry_at entries k).hi && int_le (pos 0) (entry_at entries k).err) (sym failed ∙ e)
 
-pub inductive_some : (wires : List Wire) (entries : List Bounds) (k : ℕ) (found : Option Bounds) (given : Bounds) (t : Bool) → found ≡ rule_of wires (part_at wires k).wire.0 (part_at wires k).role (entry_of wires entries) → found ≡ Some given → t ≡ (int_le (entry_at entries k).lo given.lo && int_le given.hi (entry_at entries k).hi && int_le given.err (entry_at entries k).err) → t ≡ is_inductive_at wires entries k
-inductive_some wires entries k found given t e is f =
-    f ∙ ap (λ r. lies_inside r (entry_at entries k)) (sym is ∙ e) ∙ sym (inductive_is wires entries k)
+pub inductive_some : (net : NetData) (entries : List Bounds) (k : ℕ) (found : Option Bounds) (given : Bounds) (t : Bool) → found ≡ rule_of net (part_at net k).wire.0 (part_at net k).role (entry_of net entries) → found ≡ Some given → t ≡ (int_le (entry_at entries k).lo given.lo && int_le given.hi (entry_at entries k).hi && int_le given.err (entry_at entries k).err) → t ≡ is_inductive_at net entries k
+inductive_some net entries k found given t e is f =
+    f ∙ ap (λ r. lies_inside r (entry_at entries k)) (sym is ∙ e) ∙ sym (inductive_is net entries k)
 
-pub inductive_none : (wires : List Wire) (entries : List Bounds) (k : ℕ) (found : Option Bounds) → found ≡ rule_of wires (part_at wires k).wire.0 (part_at wires k).role (entry_of wires entries) → found ≡ None → false ≡ is_inductive_at wires entries k
-inductive_none wires entries k found e is =
-    ap (λ r. lies_inside r (entry_at entries k)) (sym is ∙ e) ∙ sym (inductive_is wires entries k)
+pub inductive_none : (net : NetData) (entries : List Bounds) (k : ℕ) (found : Option Bounds) → found ≡ rule_of net (part_at net k).wire.0 (part_at net k).role (entry_of net entries) → found ≡ None → false ≡ is_inductive_at net entries k
+inductive_none net entries k found e is =
+    ap (λ r. lies_inside r (entry_at entries k)) (sym is ∙ e) ∙ sym (inductive_is net entries k)
 
 -- ---- comparisons of words
 

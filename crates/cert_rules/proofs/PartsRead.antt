@@ -5,8 +5,7 @@ use Rattle.net_model.specs.declared.wires.Block.{Block}
 use Rattle.net_model.specs.declared.wires.Item.{Item}
 use Rattle.net_model.specs.declared.wires.Item.TheVariants.{Input, Const, Block as OfBlock}
 use Rattle.net_model.specs.declared.wires.Part.{Part}
-use Rattle.net_model.specs.declared.wires.Wire.{Wire}
-use Rattle.net_model.specs.Wires.{wire_at, argument_of}
+use Rattle.net_model.specs.Wires.{NetData, wire_at, argument_of}
 use Rattle.net_model.proofs.ValidityFacts.{value_part}
 use Rattle.net_meaning.proofs.Arguments.{ArgumentsEarlier}
 use Rattle.cert_rules.specs.Acceptance.{part_at}
@@ -31,15 +30,15 @@ among b (suc n) q h =
 read_now : (b : Block) (p k : ℕ) → is_among_first b (arity_of b) k ≡ true → is_read (OfBlock b) (value_part p) (value_part k) 0 ≡ true
 read_now b p k e = ap (λ (t : Bool). t && true) e
 
-pub reads_there : (wires : List Wire) (p k : ℕ) (b : Block) → part_at wires p ≡ value_part p → part_at wires k ≡ value_part k → (wire_at wires p).item ≡ OfBlock b → is_among_first b (arity_of b) k ≡ true → reads_ago wires p k 0 ≡ true
+pub reads_there : (net : NetData) (p k : ℕ) (b : Block) → part_at net p ≡ value_part p → part_at net k ≡ value_part k → (wire_at net.wires p).item ≡ OfBlock b → is_among_first b (arity_of b) k ≡ true → reads_ago net p k 0 ≡ true
 unfolding reads_ago
-reads_there wires p k b here there is e =
-    ap (λ (t : Part). is_read (wire_at wires t.wire.0).item t (part_at wires k) 0) here ∙ ap (λ (t : Part). is_read (wire_at wires p).item (value_part p) t 0) there ∙ ap (λ (t : Item). is_read t (value_part p) (value_part k) 0) is ∙ read_now b p k e
+reads_there net p k b here there is e =
+    ap (λ (t : Part). is_read (wire_at net.wires t.wire.0).item t (part_at net k) 0) here ∙ ap (λ (t : Part). is_read (wire_at net.wires p).item (value_part p) t 0) there ∙ ap (λ (t : Item). is_read t (value_part p) (value_part k) 0) is ∙ read_now b p k e
 
 -- what is read now is read at some row
-pub reads_at-now : (wires : List Wire) (p k : ℕ) → reads_ago wires p k 0 ≡ true → reads_at wires p k ≡ true
+pub reads_at-now : (net : NetData) (p k : ℕ) → reads_ago net p k 0 ≡ true → reads_at net p k ≡ true
 unfolding reads_ago reads_at
-reads_at-now wires p k h = h
+reads_at-now net p k h = h
 
 -- ---- what is read is an argument
 
@@ -65,7 +64,7 @@ item_earlier (OfBlock b) p k ago below h =
     let both = and_parts (ago == 0) (is_among_first b (arity_of b) k) argument.0 in
     record { now = eqb-true ago 0 both.0; earlier = among_below b (arity_of b) k p below both.1 }
 
-pub reads_earlier : (wires : List Wire) (p k ago : ℕ) → part_at wires p ≡ value_part p → part_at wires k ≡ value_part k → ArgumentsEarlier p (wire_at wires p).item → reads_ago wires p k ago ≡ true → IsEarlier p k ago
+pub reads_earlier : (net : NetData) (p k ago : ℕ) → part_at net p ≡ value_part p → part_at net k ≡ value_part k → ArgumentsEarlier p (wire_at net.wires p).item → reads_ago net p k ago ≡ true → IsEarlier p k ago
 unfolding reads_ago
-reads_earlier wires p k ago here there below h =
-    item_earlier (wire_at wires p).item p k ago below (ap (λ (t : Part). is_read (wire_at wires p).item (value_part p) t ago) (sym there) ∙ ap (λ (t : Part). is_read (wire_at wires t.wire.0).item t (part_at wires k) ago) (sym here) ∙ h)
+reads_earlier net p k ago here there below h =
+    item_earlier (wire_at net.wires p).item p k ago below (ap (λ (t : Part). is_read (wire_at net.wires p).item (value_part p) t ago) (sym there) ∙ ap (λ (t : Part). is_read (wire_at net.wires t.wire.0).item t (part_at net k) ago) (sym here) ∙ h)

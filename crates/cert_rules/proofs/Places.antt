@@ -6,7 +6,7 @@ use Rattle.net_model.specs.declared.wires.Role.{Role}
 use Rattle.net_model.specs.declared.wires.Role.TheVariants.{Value}
 use Rattle.net_model.specs.declared.wires.Part.{Part}
 use Rattle.net_model.specs.declared.wires.Wire.{Wire}
-use Rattle.net_model.specs.Wires.{wire_at, roles_of, parts_from, parts_of, no_part, same_role, place_in, has_role}
+use Rattle.net_model.specs.Wires.{NetData, wire_at, roles_of, parts_from, parts_of, no_part, same_role, place_in, has_role}
 
 -- the part of a wire with a role
 abbrev pub part_of : ℕ → Role → Part
@@ -51,5 +51,5 @@ has_place_from i [] j role h k = absurd (omega arith)
 has_place_from i (w ∷ wires) zero role h k = subst (λ n. HasPlace n role (parts_from i (w ∷ wires))) (omega arith) (has_place_of_role i role (roles_of w.item) (parts_from (i + 1) wires) k)
 has_place_from i (w ∷ wires) (suc j) role h k = subst (λ n. HasPlace n role (parts_from i (w ∷ wires))) (omega arith) (has_place_behind (i + 1 + j) role (map (part_of i) (roles_of w.item)) (parts_from (i + 1) wires) (has_place_from (i + 1) wires j role (omega arith) k))
 
-pub has_place : (wires : List Wire) (i : ℕ) (role : Role) → i < length wires → IsTrue (has_role role (roles_of (wire_at wires i).item)) → HasPlace i role (parts_of wires)
-has_place wires i role h k = subst (λ n. HasPlace n role (parts_of wires)) (omega arith) (has_place_from 0 wires i role h k)
+pub has_place : (net : NetData) (i : ℕ) (role : Role) → i < length net.wires → IsTrue (has_role role (roles_of (wire_at net.wires i).item)) → HasPlace i role (parts_of net.wires)
+has_place net i role h k = subst (λ n. HasPlace n role (parts_of net.wires)) (omega arith) (has_place_from 0 net.wires i role h k)

@@ -2,9 +2,7 @@
 -- proposes. Where these lie between the ends of its kind, saturation leaves it alone.
 use Rattle.std.specs.Prelude.{◌≡◌, ℕ, ◌<◌, Bool, true, false, not, ◌||◌, List, [], get_or, ℤ, pos, ◌≤ℤ◌, Option, Some, None}
 use Rattle.std.proofs.Common.{refl, true≢false}
-use Rattle.fx_fraction.specs.Fraction.{Fraction, whole, over, distance, AtMost, Same}
-use Rattle.fx_fraction.proofs.Order.{AtMost_trans, AtMost_of-Same}
-use Rattle.fx_fraction.proofs.Distances.{distance_self}
+use Rattle.fx_fraction.specs.Fraction.{Fraction, whole}
 use Rattle.fx_fraction.proofs.WholeNumbers.{int_le_refl}
 use Rattle.fx_core.specs.declared.quotient.Mode.TheVariants.{Zero}
 use Rattle.fx_core.specs.Values.{Divides, rounded_fraction, unsaturated}
@@ -23,36 +21,30 @@ use Rattle.net_model.specs.declared.wires.Block.TheVariants.{Arith, Scaled}
 use Rattle.net_model.specs.declared.wires.Item.{Item}
 use Rattle.net_model.specs.declared.wires.Item.TheVariants.{Input, Const, Block as OfBlock}
 use Rattle.net_model.specs.declared.wires.Wire.{Wire}
-use Rattle.net_model.specs.Wires.{wire_at, argument_of, input_place, kind_least, kind_greatest}
+use Rattle.net_model.specs.Wires.{NetData, wire_at, argument_of, input_place, kind_least, kind_greatest}
 use Rattle.net_meaning.specs.Cells.{Cell, wire_values}
 use Rattle.net_meaning.specs.Blocks.{as_fractions, exact, exact_cell, formula, machine, machine_cell, machine_state_of, points_of, quotient_of, state_formula, state_greatest, state_least}
 use Rattle.net_meaning.specs.Runs.{equation_of}
 use Rattle.net_meaning.specs.Promises.{ItemDivides, KeepsRange}
-use Rattle.cert_rules.specs.declared.bounds.Bounds.{Bounds}
+use Rattle.part_rules.specs.declared.bounds.Bounds.{Bounds}
 use Rattle.cert_rules.specs.Arguments.{arity_of}
-use Rattle.cert_rules.specs.Certificates.{IsWithin}
-use Rattle.cert_rules.specs.ArithRules.{arith_bounds, arith_may_divide_by_zero}
-use Rattle.cert_rules.specs.ArithSoundness.{HasUnsignedStep, KeepsRule}
-use Rattle.cert_rules.specs.ScaledRules.{scaled_bounds}
-use Rattle.cert_rules.specs.ScaledSoundness.{FormKeepsRule}
+use Rattle.part_rules.specs.Within.{IsWithin}
+use Rattle.part_rules.proofs.Within.{itself_within}
+use Rattle.mfx_rules.specs.ArithRules.{arith_bounds, arith_may_divide_by_zero}
+use Rattle.mfx_rules.specs.ArithSoundness.{HasUnsignedStep, KeepsRule}
+use Rattle.mfx_rules.specs.ScaledRules.{scaled_bounds}
+use Rattle.mfx_rules.specs.ScaledSoundness.{FormKeepsRule}
 use Rattle.cert_rules.specs.Rules.{arguments_of, proposed, block_has_no_rule, has_no_rule}
-use Rattle.cert_rules.proofs.ArithSoundnessProof.{arith_rules_are_sound}
-use Rattle.cert_rules.proofs.ScaledSoundnessProof.{scaled_rules_are_sound}
+use Rattle.mfx_rules.proofs.ArithSoundnessProof.{arith_rules_are_sound}
+use Rattle.mfx_rules.proofs.ScaledSoundnessProof.{scaled_rules_are_sound}
 
 -- what is sound about bounds, a cell of the machine and the exact cell
-pub record IsSound (wires : List Wire) (w : Wire) (item : Item) (b : Bounds) (m : ℕ → ℕ → Cell ℤ) (e : ℕ → ℕ → Cell Fraction) (cell : Cell ℤ) (exactly : Cell Fraction) : Type 0 where
-  pub machine_divides : ItemDivides wires w item (as_fractions (wire_values m))
-  pub exact_divides : ItemDivides wires w item (wire_values e)
+pub record IsSound (net : NetData) (w : Wire) (item : Item) (b : Bounds) (m : ℕ → ℕ → Cell ℤ) (e : ℕ → ℕ → Cell Fraction) (cell : Cell ℤ) (exactly : Cell Fraction) : Type 0 where
+  pub machine_divides : ItemDivides net w item (as_fractions (wire_values m))
+  pub exact_divides : ItemDivides net w item (wire_values e)
   pub within : IsWithin b cell.value_unsaturated exactly.value
 
 -- ---- whole numbers
-
-nothing : Same (whole (pos 0)) (over (pos 0) 65536)
-unfolding whole over
-nothing = refl
-
-pub itself_within : (v : ℤ) → AtMost (distance (whole v) (whole v)) (over (pos 0) 65536)
-itself_within v = AtMost_trans (distance (whole v) (whole v)) (whole (pos 0)) (over (pos 0) 65536) (AtMost_of-Same (distance (whole v) (whole v)) (whole (pos 0)) (distance_self (whole v))) (AtMost_of-Same (whole (pos 0)) (over (pos 0) 65536) nothing)
 
 plain_within : (lo hi v : ℤ) → lo ≤ℤ v → v ≤ℤ hi → IsWithin (record { lo = lo; hi = hi; err = pos 0 }) v (whole v)
 plain_within lo hi v p q = record { low = p; high = q; near = itself_within v }
@@ -101,23 +93,23 @@ ItemHasUnsignedStep (Const value) known = Unit {0}
 ItemHasUnsignedStep (OfBlock (Arith op v x y z sh)) known = HasUnsignedStep op (arguments_of (Arith op v x y z sh) known)
 ItemHasUnsignedStep (OfBlock (Scaled op v x y)) known = Unit {0}
 
-pub rule_is_sound : (wires : List Wire) (rows : List (List ℤ)) (i : ℕ) (item : Item) (known : ℕ → Bounds) (m : ℕ → ℕ → Cell ℤ) (e : ℕ → ℕ → Cell Fraction) → KeepsRange item (get_or (get_or rows 0 []) (input_place wires i) (pos 0)) → has_no_rule item known ≡ false → ItemHasUnsignedStep item known → ArgumentsWithin item known m e → IsSound wires (wire_at wires i) item (proposed wires (wire_at wires i).kind item known) m e (equation_of machine wires rows m i item) (equation_of exact wires rows e i item)
+pub rule_is_sound : (net : NetData) (rows : List (List ℤ)) (i : ℕ) (item : Item) (known : ℕ → Bounds) (m : ℕ → ℕ → Cell ℤ) (e : ℕ → ℕ → Cell Fraction) → KeepsRange item (get_or (get_or rows 0 []) (input_place net.wires i) (pos 0)) → has_no_rule item known ≡ false → ItemHasUnsignedStep item known → ArgumentsWithin item known m e → IsSound net (wire_at net.wires i) item (proposed net (wire_at net.wires i).kind item known) m e (equation_of machine net rows m i item) (equation_of exact net rows e i item)
 unfolding equation_of proposed machine exact machine_cell exact_cell machine_state_of state_formula quotient_of formula
-rule_is_sound wires rows i (Input lo hi) known m e keeps ruled step given = record { machine_divides = tt; exact_divides = tt; within = plain_within lo hi _ keeps.0 keeps.1 }
-rule_is_sound wires rows i (Const value) known m e keeps ruled step given = record { machine_divides = tt; exact_divides = tt; within = plain_within value value value (int_le_refl value) (int_le_refl value) }
-rule_is_sound wires rows i (OfBlock (Arith op v x y z sh)) known m e keeps ruled step given =
+rule_is_sound net rows i (Input lo hi) known m e keeps ruled step given = record { machine_divides = tt; exact_divides = tt; within = plain_within lo hi _ keeps.0 keeps.1 }
+rule_is_sound net rows i (Const value) known m e keeps ruled step given = record { machine_divides = tt; exact_divides = tt; within = plain_within value value value (int_le_refl value) (int_le_refl value) }
+rule_is_sound net rows i (OfBlock (Arith op v x y z sh)) known m e keeps ruled step given =
     let b = Arith op v x y z sh in
-    let kind = (wire_at wires i).kind in
+    let kind = (wire_at net.wires i).kind in
     let holds = arith_keeps op v x y z sh known (λ p. (m 0 (argument_of b p)).value) (λ p. (e 0 (argument_of b p)).value) ruled step given in
     record {
       machine_divides = holds.machine_divides;
       exact_divides = holds.exact_divides;
       within = within_at (arith_bounds op sh (arguments_of b known)) _ _ _ (not_by_zero (kind_least kind) (kind_greatest kind) (arith_quotient op sh (λ p. whole (m 0 (argument_of b p)).value)) (arith_formula op sh (λ p. whole (m 0 (argument_of b p)).value)) holds.machine_divides) holds.within;
     }
-rule_is_sound wires rows i (OfBlock (Scaled op v x y)) known m e keeps ruled step given =
+rule_is_sound net rows i (OfBlock (Scaled op v x y)) known m e keeps ruled step given =
     let b = Scaled op v x y in
-    let kind = (wire_at wires i).kind in
-    let points = points_of wires kind b in
+    let kind = (wire_at net.wires i).kind in
+    let points = points_of net kind b in
     let holds = form_keeps op v x y points known (λ p. (m 0 (argument_of b p)).value) (λ p. (e 0 (argument_of b p)).value) ruled given in
     record {
       machine_divides = holds.machine_divides;
@@ -133,9 +125,9 @@ pub record IsKept (kind : Kind) (cell : Cell ℤ) : Type 0 where
   pub state_low : state_least ≤ℤ cell.state_unsaturated
   pub state_high : cell.state_unsaturated ≤ℤ state_greatest
 
-pub equation_keeps : (wires : List Wire) (rows : List (List ℤ)) (i : ℕ) (item : Item) (m : ℕ → ℕ → Cell ℤ) → IsKept (wire_at wires i).kind (equation_of machine wires rows m i item)
+pub equation_keeps : (net : NetData) (rows : List (List ℤ)) (i : ℕ) (item : Item) (m : ℕ → ℕ → Cell ℤ) → IsKept (wire_at net.wires i).kind (equation_of machine net rows m i item)
 unfolding equation_of machine machine_cell machine_state_of state_formula
-equation_keeps wires rows i (Input lo hi) m = record { kept = λ _ _. refl; state_low = record { le = tt }; state_high = record { le = tt } }
-equation_keeps wires rows i (Const value) m = record { kept = λ _ _. refl; state_low = record { le = tt }; state_high = record { le = tt } }
-equation_keeps wires rows i (OfBlock (Arith op v x y z sh)) m = record { kept = saturated_to-between _ _ _; state_low = record { le = tt }; state_high = record { le = tt } }
-equation_keeps wires rows i (OfBlock (Scaled op v x y)) m = record { kept = saturated_to-between _ _ _; state_low = record { le = tt }; state_high = record { le = tt } }
+equation_keeps net rows i (Input lo hi) m = record { kept = λ _ _. refl; state_low = record { le = tt }; state_high = record { le = tt } }
+equation_keeps net rows i (Const value) m = record { kept = λ _ _. refl; state_low = record { le = tt }; state_high = record { le = tt } }
+equation_keeps net rows i (OfBlock (Arith op v x y z sh)) m = record { kept = saturated_to-between _ _ _; state_low = record { le = tt }; state_high = record { le = tt } }
+equation_keeps net rows i (OfBlock (Scaled op v x y)) m = record { kept = saturated_to-between _ _ _; state_low = record { le = tt }; state_high = record { le = tt } }

@@ -14,8 +14,9 @@ use Rattle.net_meaning.specs.Cells.{Cell}
 use Rattle.net_meaning.specs.Blocks.{machine, exact}
 use Rattle.net_meaning.specs.Runs.{equation}
 use Rattle.net_meaning.specs.Promises.{KeepsRange}
-use Rattle.cert_rules.specs.declared.bounds.Bounds.{Bounds}
-use Rattle.cert_rules.specs.Certificates.{IsWithin, entry_of, held_by}
+use Rattle.part_rules.specs.declared.bounds.Bounds.{Bounds}
+use Rattle.part_rules.specs.Within.{IsWithin}
+use Rattle.cert_rules.specs.Certificates.{entry_of, held_by}
 use Rattle.cert_rules.specs.Rules.{allowed_of, has_no_rule, is_allowed, proposed, rule_of}
 use Rattle.cert_rules.specs.Acceptance.{AreAllowed, entry_at, part_at}
 use Rattle.cert_rules.specs.Arguments.{arity_of}
@@ -44,11 +45,11 @@ ruled_of false kind proposal bounds h = ruled_if kind proposal bounds (is_allowe
 -- ---- the rule of a wire's value
 
 abbrev Entries : NetData → List Bounds → ℕ → Bounds
-Entries net entries w = entry_of net.wires entries w Value
+Entries net entries w = entry_of net entries w Value
 
-pub wire_is_ruled : (net : NetData) (entries : List Bounds) (i : ℕ) (bounds : Bounds) → rule_of net.wires i Value (entry_of net.wires entries) ≡ Some bounds → IsRuled (has_no_rule (wire_at net.wires i).item (Entries net entries)) (wire_at net.wires i).kind (proposed net.wires (wire_at net.wires i).kind (wire_at net.wires i).item (Entries net entries)) bounds
+pub wire_is_ruled : (net : NetData) (entries : List Bounds) (i : ℕ) (bounds : Bounds) → rule_of net i Value (entry_of net entries) ≡ Some bounds → IsRuled (has_no_rule (wire_at net.wires i).item (Entries net entries)) (wire_at net.wires i).kind (proposed net (wire_at net.wires i).kind (wire_at net.wires i).item (Entries net entries)) bounds
 unfolding rule_of
-wire_is_ruled net entries i bounds h = ruled_of (has_no_rule (wire_at net.wires i).item (Entries net entries)) (wire_at net.wires i).kind (proposed net.wires (wire_at net.wires i).kind (wire_at net.wires i).item (Entries net entries)) bounds h
+wire_is_ruled net entries i bounds h = ruled_of (has_no_rule (wire_at net.wires i).item (Entries net entries)) (wire_at net.wires i).kind (proposed net (wire_at net.wires i).kind (wire_at net.wires i).item (Entries net entries)) bounds h
 
 -- what the rule reads is within its entries
 arguments_given : (net : NetData) (entries : List Bounds) (i : ℕ) (item : Item) (m : ℕ → ℕ → Cell ℤ) (e : ℕ → ℕ → Cell Fraction) → IsValid net → i < length net.wires → (wire_at net.wires i).item ≡ item → IsGiven net entries i m e → ArgumentsWithin item (Entries net entries) m e
@@ -59,16 +60,16 @@ arguments_given net entries i (OfBlock b) m e valid h is given = λ q few.
     let below : k < i = argument_of-valid net i b valid h is q in
     let in_wires : k < length net.wires = omega arith in
     let in_parts : k < length (parts_of net.wires) = rw (length-parts_of net.wires) in_wires in
-    let here : part_at net.wires k ≡ value_part k = get_or-parts_of net.wires k in_wires in
-    let read = reads_there net.wires i k b (get_or-parts_of net.wires i h) here is (among b (arity_of b) q few) in
+    let here : part_at net k ≡ value_part k = get_or-parts_of net.wires k in_wires in
+    let read = reads_there net i k b (get_or-parts_of net.wires i h) here is (among b (arity_of b) q few) in
     let held : IsWithin (entry_at entries k) (held_by Value (m 0 k)) (held_by Value (e 0 k)) = subst (λ (t : Part). IsWithin (entry_at entries k) (held_by t.role (m 0 t.wire.0)) (held_by t.role (e 0 t.wire.0))) here (given k 0 in_parts read) in
-    rw (entry_of-value net.wires entries k in_wires) held
+    rw (entry_of-value net entries k in_wires) held
 
-pub wire_is_sound : (net : NetData) (entries : List Bounds) (i : ℕ) (rows : List (List ℤ)) (m : ℕ → ℕ → Cell ℤ) (e : ℕ → ℕ → Cell Fraction) (bounds : Bounds) → IsValid net → AreAllowed net.wires entries → i < length net.wires → KeepsRange (wire_at net.wires i).item (get_or (get_or rows 0 []) (input_place net.wires i) (pos 0)) → IsGiven net entries i m e → rule_of net.wires i Value (entry_of net.wires entries) ≡ Some bounds → IsSound net.wires (wire_at net.wires i) (wire_at net.wires i).item bounds m e (equation machine net.wires rows m i) (equation exact net.wires rows e i)
+pub wire_is_sound : (net : NetData) (entries : List Bounds) (i : ℕ) (rows : List (List ℤ)) (m : ℕ → ℕ → Cell ℤ) (e : ℕ → ℕ → Cell Fraction) (bounds : Bounds) → IsValid net → AreAllowed net entries → i < length net.wires → KeepsRange (wire_at net.wires i).item (get_or (get_or rows 0 []) (input_place net.wires i) (pos 0)) → IsGiven net entries i m e → rule_of net i Value (entry_of net entries) ≡ Some bounds → IsSound net (wire_at net.wires i) (wire_at net.wires i).item bounds m e (equation machine net rows m i) (equation exact net rows e i)
 wire_is_sound net entries i rows m e bounds valid allowed h keeps given rules =
     let item = (wire_at net.wires i).item in
     let r = wire_is_ruled net entries i bounds rules in
-    let raw = rule_is_sound net.wires rows i item (Entries net entries) m e keeps r.ruled (unsigned_step net entries i item valid allowed h refl) (arguments_given net entries i item m e valid h refl given) in
+    let raw = rule_is_sound net rows i item (Entries net entries) m e keeps r.ruled (unsigned_step net entries i item valid allowed h refl) (arguments_given net entries i item m e valid h refl given) in
     rw r.same at raw
 
 -- ---- the rule of a part
@@ -76,7 +77,7 @@ wire_is_sound net entries i rows m e bounds valid allowed h keeps given rules =
 pub rules_are_sound : RulesAreSound
 rules_are_sound net valid entries complete allowed p h rows m e keeps given bounds rules =
     let there : p < length net.wires = rw (length-parts_of net.wires) at h in
-    let here : part_at net.wires p ≡ value_part p = get_or-parts_of net.wires p there in
+    let here : part_at net p ≡ value_part p = get_or-parts_of net.wires p there in
     let s = wire_is_sound net entries p rows m e bounds valid allowed there (rw here at keeps) given (rw here at rules) in
     record {
       machine_divides = rw here s.machine_divides;

@@ -5,17 +5,17 @@ use Rattle.net_model.specs.declared.wires.Item.TheVariants.{Input, Const, Block 
 use Rattle.net_model.specs.declared.wires.Role.{Role}
 use Rattle.net_model.specs.declared.wires.Role.TheVariants.{Value}
 use Rattle.net_model.specs.declared.wires.Part.{Part}
-use Rattle.net_model.specs.declared.wires.Wire.{Wire}
-use Rattle.net_model.specs.Wires.{wire_at, parts_of, no_part}
+use Rattle.net_model.specs.Wires.{NetData, wire_at, parts_of, no_part}
 use Rattle.net_model.specs.Smooth.{IsSmooth}
-use Rattle.cert_rules.specs.declared.bounds.Bounds.{Bounds}
-use Rattle.cert_rules.specs.Certificates.{no_bounds, entry_of}
+use Rattle.part_rules.specs.declared.bounds.Bounds.{Bounds}
+use Rattle.part_rules.specs.Within.{no_bounds}
+use Rattle.cert_rules.specs.Certificates.{entry_of}
 use Rattle.cert_rules.specs.Rules.{is_allowed, rule_of}
 
 -- an entry is allowed: its bounds are allowed for the part, its range isn't empty and its error isn't negative
-abbrev pub is_allowed_entry : List Wire → Part → Bounds → Bool
-is_allowed_entry wires part b =
-    is_allowed (wire_at wires part.wire.0).kind part.role b && int_le b.lo b.hi && int_le (pos 0) b.err
+abbrev pub is_allowed_entry : NetData → Part → Bounds → Bool
+is_allowed_entry net part b =
+    is_allowed (wire_at net.wires part.wire.0).kind part.role b && int_le b.lo b.hi && int_le (pos 0) b.err
 
 -- the value from which a part starts, where it starts from one: no part of a built block does
 abbrev pub start_of : Item → Role → Option ℤ
@@ -35,45 +35,45 @@ lies_inside (Some r) entry = int_le entry.lo r.lo && int_le r.hi entry.hi && int
 
 -- an entry is inductive: its part starts within it, and the part's rule, from the entries of all parts, gives bounds that lie
 -- within it
-abbrev pub is_inductive_entry : List Wire → List Bounds → Part → Bounds → Bool
-is_inductive_entry wires entries part b =
-    starts_inside (start_of (wire_at wires part.wire.0).item part.role) b
-    && lies_inside (rule_of wires part.wire.0 part.role (entry_of wires entries)) b
+abbrev pub is_inductive_entry : NetData → List Bounds → Part → Bounds → Bool
+is_inductive_entry net entries part b =
+    starts_inside (start_of (wire_at net.wires part.wire.0).item part.role) b
+    && lies_inside (rule_of net part.wire.0 part.role (entry_of net entries)) b
 
 -- part number k of a network, from 0
-abbrev pub part_at : List Wire → ℕ → Part
-part_at wires k = get_or (parts_of wires) k no_part
+abbrev pub part_at : NetData → ℕ → Part
+part_at net k = get_or (parts_of net.wires) k no_part
 
 -- the entry of part number k
 abbrev pub entry_at : List Bounds → ℕ → Bounds
 entry_at entries k = get_or entries k no_bounds
 
 -- the first test of part number k: its entry is allowed
-unfoldable pub is_allowed_at : List Wire → List Bounds → ℕ → Bool
-is_allowed_at wires entries k = is_allowed_entry wires (part_at wires k) (entry_at entries k)
+unfoldable pub is_allowed_at : NetData → List Bounds → ℕ → Bool
+is_allowed_at net entries k = is_allowed_entry net (part_at net k) (entry_at entries k)
 
 -- the second test of part number k: its entry is inductive
-unfoldable pub is_inductive_at : List Wire → List Bounds → ℕ → Bool
-is_inductive_at wires entries k = is_inductive_entry wires entries (part_at wires k) (entry_at entries k)
+unfoldable pub is_inductive_at : NetData → List Bounds → ℕ → Bool
+is_inductive_at net entries k = is_inductive_entry net entries (part_at net k) (entry_at entries k)
 
 -- each part's entry is allowed
-abbrev pub AreAllowed : List Wire → List Bounds → Type 0
-AreAllowed wires entries = (k : ℕ) → k < length (parts_of wires) → IsTrue (is_allowed_at wires entries k)
+abbrev pub AreAllowed : NetData → List Bounds → Type 0
+AreAllowed net entries = (k : ℕ) → k < length (parts_of net.wires) → IsTrue (is_allowed_at net entries k)
 
 -- each part's entry is inductive
-abbrev pub AreInductive : List Wire → List Bounds → Type 0
-AreInductive wires entries = (k : ℕ) → k < length (parts_of wires) → IsTrue (is_inductive_at wires entries k)
+abbrev pub AreInductive : NetData → List Bounds → Type 0
+AreInductive net entries = (k : ℕ) → k < length (parts_of net.wires) → IsTrue (is_inductive_at net entries k)
 
 -- a certificate of a network is accepted
-pub record Accepts (wires : List Wire) (entries : List Bounds) : Type 0 where
+pub record Accepts (net : NetData) (entries : List Bounds) : Type 0 where
   -- the network is smooth
-  pub smooth : IsSmooth wires
+  pub smooth : IsSmooth net.wires
   -- there is one entry for each part
-  pub complete : length entries ≡ length (parts_of wires)
+  pub complete : length entries ≡ length (parts_of net.wires)
   -- each entry is allowed
-  pub allowed : AreAllowed wires entries
+  pub allowed : AreAllowed net entries
   -- each is inductive
-  pub inductive : AreInductive wires entries
+  pub inductive : AreInductive net entries
 
 -- the first of n numbers, from k on, that fails a test
 unfoldable pub first_failing : (ℕ → Bool) → ℕ → ℕ → Option ℕ
@@ -87,8 +87,8 @@ or_later None later = later
 
 -- the number of the first part that fails: the first whose entry isn't allowed; where all are, the first whose isn't
 -- inductive
-unfoldable pub first_rejected : List Wire → List Bounds → Option ℕ
-first_rejected wires entries =
+unfoldable pub first_rejected : NetData → List Bounds → Option ℕ
+first_rejected net entries =
     or_later
-    (first_failing (is_allowed_at wires entries) 0 (length (parts_of wires)))
-    (first_failing (is_inductive_at wires entries) 0 (length (parts_of wires)))
+    (first_failing (is_allowed_at net entries) 0 (length (parts_of net.wires)))
+    (first_failing (is_inductive_at net entries) 0 (length (parts_of net.wires)))

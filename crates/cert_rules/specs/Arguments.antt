@@ -8,12 +8,11 @@ use Rattle.net_model.specs.declared.wires.Role.{Role}
 use Rattle.net_model.specs.declared.wires.Role.TheVariants.{Value}
 use Rattle.net_model.specs.declared.wires.Part.{Part}
 use Rattle.net_model.specs.declared.wires.PartNo.{PartNo}
-use Rattle.net_model.specs.declared.wires.Wire.{Wire}
 use Rattle.net_model.specs.Wires.{NetData, wire_at, argument_of, parts_of, same_role}
 use Rattle.net_model.specs.Validity.{IsValid}
 use Rattle.mfx_arith.specs.Operations.{arith_arity}
 use Rattle.mfx_scaled.specs.Operations.{scaled_arity}
-use Rattle.cert_rules.specs.declared.bounds.Bounds.{Bounds}
+use Rattle.part_rules.specs.declared.bounds.Bounds.{Bounds}
 use Rattle.cert_rules.specs.Rules.{rule_of}
 use Rattle.cert_rules.specs.Acceptance.{part_at}
 
@@ -53,33 +52,33 @@ passing test k zero = []
 passing test k (suc n) = if test k then record { 0 = k } ∷ passing test (suc k) n else passing test (suc k) n
 
 -- whether the rule of part number p reads part number k, so many rows ago
-unfoldable pub reads_ago : List Wire → ℕ → ℕ → ℕ → Bool
-reads_ago wires p k ago = is_read (wire_at wires (part_at wires p).wire.0).item (part_at wires p) (part_at wires k) ago
+unfoldable pub reads_ago : NetData → ℕ → ℕ → ℕ → Bool
+reads_ago net p k ago = is_read (wire_at net.wires (part_at net p).wire.0).item (part_at net p) (part_at net k) ago
 
 -- whether it reads it at any row
-unfoldable pub reads_at : List Wire → ℕ → ℕ → Bool
-reads_at wires p k = reads (wire_at wires (part_at wires p).wire.0).item (part_at wires p) (part_at wires k)
+unfoldable pub reads_at : NetData → ℕ → ℕ → Bool
+reads_at net p k = reads (wire_at net.wires (part_at net p).wire.0).item (part_at net p) (part_at net k)
 
 -- the numbers of the parts that the rule of part number p reads, in the order of the network
-abbrev pub read_by : List Wire → ℕ → List PartNo
-read_by wires p = passing (reads_at wires p) 0 (length (parts_of wires))
+abbrev pub read_by : NetData → ℕ → List PartNo
+read_by net p = passing (reads_at net p) 0 (length (parts_of net.wires))
 
 -- what two certificates say of part number k is the same
-abbrev pub AgreeAt : List Wire → ℕ → (ℕ → Role → Bounds) → (ℕ → Role → Bounds) → Type 0
-AgreeAt wires k one other =
-    one (part_at wires k).wire.0 (part_at wires k).role ≡ other (part_at wires k).wire.0 (part_at wires k).role
+abbrev pub AgreeAt : NetData → ℕ → (ℕ → Role → Bounds) → (ℕ → Role → Bounds) → Type 0
+AgreeAt net k one other =
+    one (part_at net k).wire.0 (part_at net k).role ≡ other (part_at net k).wire.0 (part_at net k).role
 
 -- they say the same of each part that the rule of part number p reads
-abbrev pub AgreeFor : List Wire → ℕ → (ℕ → Role → Bounds) → (ℕ → Role → Bounds) → Type 0
-AgreeFor wires p one other =
-    (k : ℕ) → k < length (parts_of wires) → IsTrue (reads_at wires p k) → AgreeAt wires k one other
+abbrev pub AgreeFor : NetData → ℕ → (ℕ → Role → Bounds) → (ℕ → Role → Bounds) → Type 0
+AgreeFor net p one other =
+    (k : ℕ) → k < length (parts_of net.wires) → IsTrue (reads_at net p k) → AgreeAt net k one other
 
 -- the rule of part number p, from what a certificate says of all parts
-abbrev pub rule_by : List Wire → ℕ → (ℕ → Role → Bounds) → Option Bounds
-rule_by wires p known = rule_of wires (part_at wires p).wire.0 (part_at wires p).role known
+abbrev pub rule_by : NetData → ℕ → (ℕ → Role → Bounds) → Option Bounds
+rule_by net p known = rule_of net (part_at net p).wire.0 (part_at net p).role known
 
 -- the rule of a part of a valid network depends on what it reads alone
 abbrev pub RulesReadTheirArguments : Type 0
 RulesReadTheirArguments =
     (net : NetData) → IsValid net → (p : ℕ) → p < length (parts_of net.wires) → (one other : ℕ → Role → Bounds) →
-    AgreeFor net.wires p one other → rule_by net.wires p one ≡ rule_by net.wires p other
+    AgreeFor net p one other → rule_by net p one ≡ rule_by net p other

@@ -1,16 +1,6 @@
 pub mod Certificates
-pub mod Units
-pub mod Ranges
-pub mod ArithRules
-pub mod ArithSoundness
-pub mod ScaledRules
-pub mod ScaledSoundness
 pub mod Rules
-pub mod ArithCorners
-pub mod ArithWide
-pub mod ScaledCorners
 pub mod Acceptance
-pub mod Entries
 pub mod Proper
 pub mod Arguments
 pub mod Soundness

@@ -1,6 +1,6 @@
 -- Which bounds may stand in a certificate.
 use Rattle.std.specs.Prelude.{ℕ, ◌-◌, ◌^◌, Bool, not, ◌&&◌, List, ℤ, pos, negsuc, int_le, Option, position}
-use Rattle.cert_rules.specs.declared.bounds.Bounds.{Bounds}
+use Rattle.part_rules.specs.declared.bounds.Bounds.{Bounds}
 
 -- a number of an entry lies from -2^62 to 2^62
 abbrev pub is_entry_number : ℤ → Bool

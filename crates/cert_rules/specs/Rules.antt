@@ -7,13 +7,12 @@ use Rattle.net_model.specs.declared.wires.Item.{Item}
 use Rattle.net_model.specs.declared.wires.Item.TheVariants.{Input, Const, Block as OfBlock}
 use Rattle.net_model.specs.declared.wires.Role.{Role}
 use Rattle.net_model.specs.declared.wires.Role.TheVariants.{Value}
-use Rattle.net_model.specs.declared.wires.Wire.{Wire}
-use Rattle.net_model.specs.Wires.{wire_at, kind_least, kind_greatest, argument_of}
+use Rattle.net_model.specs.Wires.{NetData, wire_at, kind_least, kind_greatest, argument_of}
 use Rattle.net_meaning.specs.Blocks.{points_of}
 use Rattle.mfx_arith.specs.Operations.{is_smooth_operation}
-use Rattle.cert_rules.specs.declared.bounds.Bounds.{Bounds}
-use Rattle.cert_rules.specs.ArithRules.{arith_may_divide_by_zero, arith_bounds}
-use Rattle.cert_rules.specs.ScaledRules.{scaled_may_divide_by_zero, scaled_bounds}
+use Rattle.part_rules.specs.declared.bounds.Bounds.{Bounds}
+use Rattle.mfx_rules.specs.ArithRules.{arith_may_divide_by_zero, arith_bounds}
+use Rattle.mfx_rules.specs.ScaledRules.{scaled_may_divide_by_zero, scaled_bounds}
 
 -- the bounds of a block's arguments, by their number, where `known` has those of each wire
 abbrev pub arguments_of : Block → (ℕ → Bounds) → ℕ → Bounds
@@ -52,16 +51,16 @@ has_no_rule (Const value) known = false
 has_no_rule (OfBlock b) known = block_has_no_rule b known
 
 -- the bounds of a wire's value, from those of each wire's value, before it is asked whether they are allowed
-unfoldable pub proposed : List Wire → Kind → Item → (ℕ → Bounds) → Bounds
-proposed wires kind (Input lo hi) known = record { lo = lo; hi = hi; err = pos 0 }
-proposed wires kind (Const value) known = record { lo = value; hi = value; err = pos 0 }
-proposed wires kind (OfBlock (Arith op v x y z shift)) known = arith_bounds op shift (arguments_of (Arith op v x y z shift) known)
-proposed wires kind (OfBlock (Scaled op v x y)) known =
-    let b = Scaled op v x y in scaled_bounds op (points_of wires kind b) (arguments_of b known)
+unfoldable pub proposed : NetData → Kind → Item → (ℕ → Bounds) → Bounds
+proposed net kind (Input lo hi) known = record { lo = lo; hi = hi; err = pos 0 }
+proposed net kind (Const value) known = record { lo = value; hi = value; err = pos 0 }
+proposed net kind (OfBlock (Arith op v x y z shift)) known = arith_bounds op shift (arguments_of (Arith op v x y z shift) known)
+proposed net kind (OfBlock (Scaled op v x y)) known =
+    let b = Scaled op v x y in scaled_bounds op (points_of net kind b) (arguments_of b known)
 
 -- the same; none where there is no rule for the wire's value
-abbrev pub bounds_of : List Wire → Kind → Item → (ℕ → Bounds) → Option Bounds
-bounds_of wires kind item known = if has_no_rule item known then None else Some (proposed wires kind item known)
+abbrev pub bounds_of : NetData → Kind → Item → (ℕ → Bounds) → Option Bounds
+bounds_of net kind item known = if has_no_rule item known then None else Some (proposed net kind item known)
 
 -- bounds, where they are allowed
 abbrev pub if_allowed : Kind → Role → Bounds → Option Bounds
@@ -74,6 +73,6 @@ allowed_of kind role (Some b) = if_allowed kind role b
 
 -- the rule of a part of wire i: its bounds, from those of all parts (`all k r` are those of part r of wire k); none
 -- where there is no rule for it, or where the bounds aren't allowed
-unfoldable pub rule_of : List Wire → ℕ → Role → (ℕ → Role → Bounds) → Option Bounds
-rule_of wires i Value all =
-    let w = wire_at wires i in allowed_of w.kind Value (bounds_of wires w.kind w.item (λ k. all k Value))
+unfoldable pub rule_of : NetData → ℕ → Role → (ℕ → Role → Bounds) → Option Bounds
+rule_of net i Value all =
+    let w = wire_at net.wires i in allowed_of w.kind Value (bounds_of net w.kind w.item (λ k. all k Value))

@@ -12,8 +12,9 @@ use Rattle.net_meaning.specs.Cells.{Cell, wire_values}
 use Rattle.net_meaning.specs.Blocks.{machine, exact, as_fractions}
 use Rattle.net_meaning.specs.Runs.{equation}
 use Rattle.net_meaning.specs.Promises.{KeepsRange, ItemDivides}
-use Rattle.cert_rules.specs.declared.bounds.Bounds.{Bounds}
-use Rattle.cert_rules.specs.Certificates.{IsWithin, entry_of, held_by}
+use Rattle.part_rules.specs.declared.bounds.Bounds.{Bounds}
+use Rattle.part_rules.specs.Within.{IsWithin}
+use Rattle.cert_rules.specs.Certificates.{entry_of, held_by}
 use Rattle.cert_rules.specs.Acceptance.{AreAllowed, entry_at, part_at}
 use Rattle.cert_rules.specs.Arguments.{reads_ago, rule_by}
 
@@ -23,42 +24,42 @@ raw_by Value cell = cell.value_unsaturated
 
 -- the wire on which part number p stands
 abbrev pub wire_of : NetData → ℕ → Wire
-wire_of net p = wire_at net.wires (part_at net.wires p).wire.0
+wire_of net p = wire_at net.wires (part_at net p).wire.0
 
 -- where wires hold these cells at one row, part number k is within its entry
 abbrev pub IsHeld : NetData → List Bounds → ℕ → (ℕ → Cell ℤ) → (ℕ → Cell Fraction) → Type 0
 IsHeld net entries k m e =
-    let part = part_at net.wires k in
+    let part = part_at net k in
     IsWithin (entry_at entries k) (held_by part.role (m part.wire.0)) (held_by part.role (e part.wire.0))
 
 -- each part that the rule of part number p reads is within its entry, at each row of which the rule reads it
 abbrev pub IsGiven : NetData → List Bounds → ℕ → (ℕ → ℕ → Cell ℤ) → (ℕ → ℕ → Cell Fraction) → Type 0
 IsGiven net entries p m e =
-    (k ago : ℕ) → k < length (parts_of net.wires) → IsTrue (reads_ago net.wires p k ago) → IsHeld net entries k (m ago) (e ago)
+    (k ago : ℕ) → k < length (parts_of net.wires) → IsTrue (reads_ago net p k ago) → IsHeld net entries k (m ago) (e ago)
 
 -- where the wire of part number p is an input, its value of the newest row lies in the declared range
 abbrev pub KeepsInput : NetData → ℕ → List (List ℤ) → Type 0
 KeepsInput net p rows =
-    let place = input_place net.wires (part_at net.wires p).wire.0 in
+    let place = input_place net.wires (part_at net p).wire.0 in
     KeepsRange (wire_of net p).item (get_or (get_or rows 0 []) place (pos 0))
 
 -- what part number p's equation gives over the rows in the machine, before saturation
 abbrev pub machine_raw : NetData → ℕ → List (List ℤ) → (ℕ → ℕ → Cell ℤ) → ℤ
 machine_raw net p rows m =
-    raw_by (part_at net.wires p).role (equation machine net.wires rows m (part_at net.wires p).wire.0)
+    raw_by (part_at net p).role (equation machine net rows m (part_at net p).wire.0)
 
 -- what it gives in exact fractions
 abbrev pub exact_value : NetData → ℕ → List (List ℤ) → (ℕ → ℕ → Cell Fraction) → Fraction
 exact_value net p rows e =
-    held_by (part_at net.wires p).role (equation exact net.wires rows e (part_at net.wires p).wire.0)
+    held_by (part_at net p).role (equation exact net rows e (part_at net p).wire.0)
 
 -- part number p keeps to bounds
 pub record KeepsBounds (net : NetData) (p : ℕ) (rows : List (List ℤ)) (m : ℕ → ℕ → Cell ℤ) (e : ℕ → ℕ → Cell Fraction)
     (bounds : Bounds) : Type 0 where
   -- its divisor isn't 0 in the machine
-  pub machine_divides : ItemDivides net.wires (wire_of net p) (wire_of net p).item (as_fractions (wire_values m))
+  pub machine_divides : ItemDivides net (wire_of net p) (wire_of net p).item (as_fractions (wire_values m))
   -- nor is it in exact fractions
-  pub exact_divides : ItemDivides net.wires (wire_of net p) (wire_of net p).item (wire_values e)
+  pub exact_divides : ItemDivides net (wire_of net p) (wire_of net p).item (wire_values e)
   -- the machine's value before saturation lies in the range, and within the error of the exact value
   pub within : IsWithin bounds (machine_raw net p rows m) (exact_value net p rows e)
 
@@ -67,8 +68,8 @@ pub record KeepsBounds (net : NetData) (p : ℕ) (rows : List (List ℤ)) (m : �
 abbrev pub RulesAreSound : Type 0
 RulesAreSound =
     (net : NetData) → IsValid net →
-    (entries : List Bounds) → length entries ≡ length (parts_of net.wires) → AreAllowed net.wires entries →
+    (entries : List Bounds) → length entries ≡ length (parts_of net.wires) → AreAllowed net entries →
     (p : ℕ) → p < length (parts_of net.wires) →
     (rows : List (List ℤ)) (m : ℕ → ℕ → Cell ℤ) (e : ℕ → ℕ → Cell Fraction) →
     KeepsInput net p rows → IsGiven net entries p m e →
-    (bounds : Bounds) → rule_by net.wires p (entry_of net.wires entries) ≡ Some bounds → KeepsBounds net p rows m e bounds
+    (bounds : Bounds) → rule_by net p (entry_of net entries) ≡ Some bounds → KeepsBounds net p rows m e bounds

@@ -3,10 +3,9 @@ use Rattle.std.specs.Prelude.{◌≡◌, ◌↔◌, List, length, ℤ, None}
 use Rattle.net_model.specs.Wires.{NetData, parts_of}
 use Rattle.net_model.specs.Validity.{IsValid}
 use Rattle.net_model.specs.Smooth.{IsSmooth}
-use Rattle.net_model.specs.declared.wires.Wire.{Wire}
 use Rattle.net_meaning.specs.Runs.{AreRuns, Tables}
 use Rattle.net_meaning.specs.Promises.{Keeps, Fits}
-use Rattle.cert_rules.specs.declared.bounds.Bounds.{Bounds}
+use Rattle.part_rules.specs.declared.bounds.Bounds.{Bounds}
 use Rattle.cert_rules.specs.Certificates.{Within}
 use Rattle.cert_rules.specs.Acceptance.{Accepts, first_rejected}
 
@@ -15,28 +14,28 @@ pub record HoldsOver (net : NetData) (entries : List Bounds) (rows : List (List 
   -- what the network's wires hold, in the machine and in exact fractions
   pub tables : Tables
   -- these are the network's two runs over the rows
-  pub are_runs : AreRuns net.wires rows tables
+  pub are_runs : AreRuns net rows tables
   -- and it has no others
-  pub are_only : (others : Tables) → AreRuns net.wires rows others → others ≡ tables
+  pub are_only : (others : Tables) → AreRuns net rows others → others ≡ tables
   -- no divisor is 0, and nothing saturates
-  pub fits : Fits net.wires rows tables
+  pub fits : Fits net rows tables
   -- each part lies in its certified range, and differs from its value in exact fractions by at most its certified error
-  pub within : Within net.wires entries rows tables
+  pub within : Within net entries rows tables
 
 -- a certificate holds where it does over every recording, of any length, that keeps to the declared ranges
 abbrev pub CertificateHolds : NetData → List Bounds → Type 0
-CertificateHolds net entries = (rows : List (List ℤ)) → Keeps net.wires rows → HoldsOver net entries rows
+CertificateHolds net entries = (rows : List (List ℤ)) → Keeps net rows → HoldsOver net entries rows
 
 -- an accepted certificate of a valid network holds
 abbrev pub CertificatesHold : Type 0
 CertificatesHold =
-    (net : NetData) (entries : List Bounds) → IsValid net → Accepts net.wires entries → CertificateHolds net entries
+    (net : NetData) (entries : List Bounds) → IsValid net → Accepts net entries → CertificateHolds net entries
 
 -- the entries of a smooth network, one for each part, are accepted exactly where no part is rejected
 abbrev pub AcceptsExactly : Type 0
 AcceptsExactly =
-    (wires : List Wire) (entries : List Bounds) → IsSmooth wires → length entries ≡ length (parts_of wires) →
-    (first_rejected wires entries ≡ None ↔ Accepts wires entries)
+    (net : NetData) (entries : List Bounds) → IsSmooth net.wires → length entries ≡ length (parts_of net.wires) →
+    (first_rejected net entries ≡ None ↔ Accepts net entries)
 
 -- every valid network is smooth, since no remainder is built
 abbrev pub AllAreSmooth : Type 0

@@ -13,7 +13,7 @@ use net_model::{Block, Item, Network, Part, PartNo, Role, WireNo};
 /// and each once: None where the rule reads no more than `i`.
 pub fn argument(net: &Network, part: PartNo, i: u32) -> Option<PartNo>
     requires { part.0 < length (parts_of net.now.wires) }
-    ensures { result ≡ slice_get (read_by net.now.wires part.0) i }
+    ensures { result ≡ slice_get (read_by net.now part.0) i }
 {
     let mut left = i;
     for k in 0..net.parts().len() {
@@ -36,7 +36,7 @@ pub fn rules_read_their_arguments()
 fn reads_at(net: &Network, part: PartNo, other: PartNo) -> bool
     requires part { part.0 < length (parts_of net.now.wires) }
     requires other { other.0 < length (parts_of net.now.wires) }
-    ensures { result ≡ reads_at net.now.wires part.0 other.0 }
+    ensures { result ≡ reads_at net.now part.0 other.0 }
 {
     let wire = part_numbered(net, part).wire;
     reads(item_at(net, wire), part_numbered(net, other))

@@ -3,7 +3,7 @@
 ghost use Rattle.std.specs.Prelude.{◌≡◌, ◌<◌, ◌^◌, length, IfErr, IfOk, IfSome, OnOk, None, Some};
 ghost use Rattle.cert_rules.specs.Proper.{first_improper, is_entry_number, is_proper_entry};
 
-use crate::bounds::Bounds;
+use part_rules::Bounds;
 use std::marker::Model;
 
 /// The greatest absolute value of an entry's numbers.
@@ -24,7 +24,7 @@ pub struct Certificate {
 
 impl Model for Certificate {
     ghost use Rattle.std.specs.Prelude.{List};
-    ghost use Rattle.cert_rules.specs.declared.bounds.Bounds.{Bounds};
+    ghost use Rattle.part_rules.specs.declared.bounds.Bounds.{Bounds};
 
     ghost Value = { List Bounds };
 

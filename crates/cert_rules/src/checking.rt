@@ -4,7 +4,7 @@ ghost use Rattle.std.specs.Prelude.{◌≡◌, ◌<◌, ◌&&◌, None, int_le, 
 ghost use Rattle.net_model.specs.Wires.{parts_of};
 ghost use Rattle.cert_rules.specs.Acceptance.{AreAllowed, first_failing, first_rejected, is_inductive_at, is_allowed_at};
 
-use crate::bounds::Bounds;
+use part_rules::Bounds;
 use crate::limits::allowed;
 use crate::ruling::rule;
 use net_model::{Network, PartNo};
@@ -13,7 +13,7 @@ use net_model::{Network, PartNo};
 /// where all are allowed, the first whose entry is narrower than its rule gives. None where it is accepted.
 pub fn rejected_part(net: &Network, entries: &[Bounds]) -> Option<PartNo>
     requires { length entries.now ≡ length (parts_of net.now.wires) }
-    ensures { option_map (λ p. p.0) result ≡ first_rejected net.now.wires entries.now }
+    ensures { option_map (λ p. p.0) result ≡ first_rejected net.now entries.now }
 {
     match first_disallowed(net, entries) {
         Some(part) => Some(part),
@@ -25,9 +25,9 @@ pub fn rejected_part(net: &Network, entries: &[Bounds]) -> Option<PartNo>
 /// error is negative. None where all are allowed, as `rule` wants them.
 pub fn first_disallowed(net: &Network, entries: &[Bounds]) -> Option<PartNo>
     requires { length entries.now ≡ length (parts_of net.now.wires) }
-    ensures allowed { result ≡ None → AreAllowed net.now.wires entries.now }
+    ensures allowed { result ≡ None → AreAllowed net.now entries.now }
     ensures first { option_map (λ p. p.0) result
-        ≡ first_failing (is_allowed_at net.now.wires entries.now) 0 (length (parts_of net.now.wires)) }
+        ≡ first_failing (is_allowed_at net.now entries.now) 0 (length (parts_of net.now.wires)) }
 {
     for k in 0..part_count(net) {
         if !is_allowed_at(net, PartNo(k), entries) {
@@ -39,9 +39,9 @@ pub fn first_disallowed(net: &Network, entries: &[Bounds]) -> Option<PartNo>
 
 fn first_narrow(net: &Network, entries: &[Bounds]) -> Option<PartNo>
     requires complete { length entries.now ≡ length (parts_of net.now.wires) }
-    requires allowed { AreAllowed net.now.wires entries.now }
+    requires allowed { AreAllowed net.now entries.now }
     ensures { option_map (λ p. p.0) result
-        ≡ first_failing (is_inductive_at net.now.wires entries.now) 0 (length (parts_of net.now.wires)) }
+        ≡ first_failing (is_inductive_at net.now entries.now) 0 (length (parts_of net.now.wires)) }
 {
     for k in 0..part_count(net) {
         if !is_inductive(net, PartNo(k), entries) {
@@ -62,7 +62,7 @@ fn part_count(net: &Network) -> u32
 fn is_allowed_at(net: &Network, part: PartNo, entries: &[Bounds]) -> bool
     requires there { part.0 < length (parts_of net.now.wires) }
     requires complete { length entries.now ≡ length (parts_of net.now.wires) }
-    ensures { result ≡ is_allowed_at net.now.wires entries.now part.0 }
+    ensures { result ≡ is_allowed_at net.now entries.now part.0 }
 {
     let entry = entries[part.0 as usize];
     allowed(net, part, entry) && is_proper(entry)
@@ -80,8 +80,8 @@ fn is_proper(b: Bounds) -> bool
 fn is_inductive(net: &Network, part: PartNo, entries: &[Bounds]) -> bool
     requires there { part.0 < length (parts_of net.now.wires) }
     requires complete { length entries.now ≡ length (parts_of net.now.wires) }
-    requires allowed { AreAllowed net.now.wires entries.now }
-    ensures { result ≡ is_inductive_at net.now.wires entries.now part.0 }
+    requires allowed { AreAllowed net.now entries.now }
+    ensures { result ≡ is_inductive_at net.now entries.now part.0 }
 {
     let entry = entries[part.0 as usize];
     match rule(net, part, entries) {

@@ -5,7 +5,7 @@ ghost use Rattle.net_model.specs.Wires.{parts_of, wire_at};
 ghost use Rattle.cert_rules.specs.Rules.{is_allowed, part_greatest, part_least};
 ghost use Rattle.cert_rules.specs.Acceptance.{part_at};
 
-use crate::bounds::Bounds;
+use part_rules::Bounds;
 use crate::lookups::{kind_at, part_numbered};
 use net_model::{Kind, Network, PartNo, Role};
 
@@ -16,7 +16,7 @@ const ERROR_CAP: i64 = 1 << 40;
 /// error is below its cap.
 pub fn allowed(net: &Network, part: PartNo, b: Bounds) -> bool
     requires { part.0 < length (parts_of net.now.wires) }
-    ensures { let p = part_at net.now.wires part.0 in
+    ensures { let p = part_at net.now part.0 in
         result ≡ is_allowed (wire_at net.now.wires p.wire.0).kind p.role b }
 {
     let part = part_numbered(net, part);

@@ -5,13 +5,13 @@ ghost use Rattle.net_model.specs.Wires.{parts_of, point_of, wire_at};
 ghost use Rattle.net_model.specs.Validity.{IsValid};
 ghost use Rattle.cert_rules.specs.Acceptance.{entry_at, part_at};
 
-use crate::bounds::Bounds;
+use part_rules::Bounds;
 use net_model::{Item, Kind, Network, Part, PartNo, WireNo};
 
 /// The part of a number.
 pub(crate) fn part_numbered(net: &Network, part: PartNo) -> Part
     requires { part.0 < length (parts_of net.now.wires) }
-    ensures part { result ≡ part_at net.now.wires part.0 }
+    ensures part { result ≡ part_at net.now part.0 }
     ensures wire { result.wire.0 < length net.now.wires }
     ensures valid { IsValid net.now }
 {

@@ -7,10 +7,10 @@ ghost use Rattle.cert_rules.specs.Certificates.{entry_of};
 ghost use Rattle.cert_rules.specs.Rules.{allowed_of, bounds_of, rule_of};
 ghost use Rattle.cert_rules.specs.Acceptance.{AreAllowed, part_at};
 
-use crate::bounds::Bounds;
+use part_rules::Bounds;
 use crate::limits::is_within_limits;
 use crate::lookups::{item_at, kind_at, part_numbered, point_at, value_entry};
-use crate::narrowing::{form_bounds, operation_bounds};
+use mfx_rules::{form_bounds, operation_bounds};
 use mfx_scaled::Points;
 use net_model::{Block, Item, Network, PartNo, Role, WireNo};
 
@@ -19,9 +19,9 @@ use net_model::{Block, Item, Network, PartNo, Role, WireNo};
 pub fn rule(net: &Network, part: PartNo, all: &[Bounds]) -> Option<Bounds>
     requires there { part.0 < length (parts_of net.now.wires) }
     requires complete { length all.now ≡ length (parts_of net.now.wires) }
-    requires allowed { AreAllowed net.now.wires all.now }
-    ensures { let p = part_at net.now.wires part.0 in
-        result ≡ rule_of net.now.wires p.wire.0 p.role (entry_of net.now.wires all.now) }
+    requires allowed { AreAllowed net.now all.now }
+    ensures { let p = part_at net.now part.0 in
+        result ≡ rule_of net.now p.wire.0 p.role (entry_of net.now all.now) }
 {
     let part = part_numbered(net, part);
     match part.role {
@@ -34,8 +34,8 @@ fn value_rule(net: &Network, wire: WireNo, all: &[Bounds]) -> Option<Bounds>
     requires valid { IsValid net.now }
     requires there { wire.0 < length net.now.wires }
     requires complete { length all.now ≡ length (parts_of net.now.wires) }
-    requires allowed { AreAllowed net.now.wires all.now }
-    ensures { result ≡ rule_of net.now.wires wire.0 Role.Value (entry_of net.now.wires all.now) }
+    requires allowed { AreAllowed net.now all.now }
+    ensures { result ≡ rule_of net.now wire.0 Role.Value (entry_of net.now all.now) }
 {
     let b = item_bounds(net, wire, all)?;
     if is_within_limits(kind_at(net, wire), Role::Value, b) {
@@ -51,10 +51,10 @@ fn item_bounds(net: &Network, wire: WireNo, all: &[Bounds]) -> Option<Bounds>
     requires valid { IsValid net.now }
     requires there { wire.0 < length net.now.wires }
     requires complete { length all.now ≡ length (parts_of net.now.wires) }
-    requires allowed { AreAllowed net.now.wires all.now }
+    requires allowed { AreAllowed net.now all.now }
     ensures { let w = wire_at net.now.wires wire.0 in
         allowed_of w.kind Role.Value result
-        ≡ allowed_of w.kind Role.Value (bounds_of net.now.wires w.kind w.item (λ k. entry_of net.now.wires all.now k Role.Value)) }
+        ≡ allowed_of w.kind Role.Value (bounds_of net.now w.kind w.item (λ k. entry_of net.now all.now k Role.Value)) }
 {
     match item_at(net, wire) {
         Item::Input { lo, hi } => Some(Bounds { lo, hi, err: 0 }),
@@ -73,10 +73,10 @@ fn block_bounds(net: &Network, wire: WireNo, block: Block, all: &[Bounds]) -> Op
     requires there { wire.0 < length net.now.wires }
     requires block { (wire_at net.now.wires wire.0).item ≡ Item.Block block }
     requires complete { length all.now ≡ length (parts_of net.now.wires) }
-    requires allowed { AreAllowed net.now.wires all.now }
+    requires allowed { AreAllowed net.now all.now }
     ensures { let kind = (wire_at net.now.wires wire.0).kind in
         allowed_of kind Role.Value result
-        ≡ allowed_of kind Role.Value (bounds_of net.now.wires kind (Item.Block block) (λ k. entry_of net.now.wires all.now k Role.Value)) }
+        ≡ allowed_of kind Role.Value (bounds_of net.now kind (Item.Block block) (λ k. entry_of net.now all.now k Role.Value)) }
 {
     match block {
         Block::Arith {

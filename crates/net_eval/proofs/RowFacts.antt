@@ -47,16 +47,16 @@ push_each xs x d P n len h here k lt =
 
 -- ---- steps
 
-pub length-steps_of : (wires : List Wire) (n : ℕ) → length (steps_of wires n) ≡ n
+pub length-steps_of : (net : NetData) (n : ℕ) → length (steps_of net n) ≡ n
 unfolding steps_of
-length-steps_of wires zero = refl
-length-steps_of wires (suc n) = length_push _ _ ∙ omega (arith, length-steps_of wires n)
+length-steps_of net zero = refl
+length-steps_of net (suc n) = length_push _ _ ∙ omega (arith, length-steps_of net n)
 
-pub step_at-steps_of : (wires : List Wire) (n k : ℕ) → k < n → step_at (steps_of wires n) k ≡ item_step wires k (wire_at wires k).item
+pub step_at-steps_of : (net : NetData) (n k : ℕ) → k < n → step_at (steps_of net n) k ≡ item_step net k (wire_at net.wires k).item
 unfolding steps_of
-step_at-steps_of wires zero k lt = absurd (omega arith)
-step_at-steps_of wires (suc n) k lt =
-    push_each (steps_of wires n) _ (Read 0) (λ m s. s ≡ item_step wires m (wire_at wires m).item) n (length-steps_of wires n) (step_at-steps_of wires n) refl k lt
+step_at-steps_of net zero k lt = absurd (omega arith)
+step_at-steps_of net (suc n) k lt =
+    push_each (steps_of net n) _ (Read 0) (λ m s. s ≡ item_step net m (wire_at net.wires m).item) n (length-steps_of net n) (step_at-steps_of net n) refl k lt
 
 pub length-values_of : (steps : List Step) (inputs : List ℤ) (n : ℕ) → length (values_of steps inputs n) ≡ n
 unfolding values_of
@@ -102,7 +102,7 @@ kind_held ty kind point v e h =
     let k : IsInKind (Num ty point) v = subst (λ k. IsInKind k v) e h in
     (k.low, k.high)
 
-value_held : (net : NetData) (inputs values : List ℤ) (i : ℕ) (item : Item) → IsValid net → AreTyped net.wires inputs → i < length net.wires → (wire_at net.wires i).item ≡ item → IsInKind (wire_at net.wires i).kind (step_value (item_step net.wires i item) inputs values)
+value_held : (net : NetData) (inputs values : List ℤ) (i : ℕ) (item : Item) → IsValid net → AreTyped net inputs → i < length net.wires → (wire_at net.wires i).item ≡ item → IsInKind (wire_at net.wires i).kind (step_value (item_step net i item) inputs values)
 unfolding arith_value scaled_value value_in
 value_held net inputs values i (Input lo hi) valid typed lt e = in_kind _ _ (typed i lt (ap is_input e))
 value_held net inputs values i (Const value) valid typed lt e = const-valid net i value valid lt e
@@ -114,48 +114,48 @@ value_held net inputs values i (OfBlock (Scaled op v x y)) valid typed lt e =
     held_in_kind v.o _ k.0 _ k.1 (saturated_held v.o _)
 
 -- each of the first values lies in its kind
-abbrev AreHeld : List Wire → List ℤ → ℕ → Type 0
-AreHeld wires values n = (k : ℕ) → k < n → IsInKind (wire_at wires k).kind (value_at values k)
+abbrev AreHeld : NetData → List ℤ → ℕ → Type 0
+AreHeld net values n = (k : ℕ) → k < n → IsInKind (wire_at net.wires k).kind (value_at values k)
 
-values_held : (net : NetData) (inputs : List ℤ) (n : ℕ) → IsValid net → AreTyped net.wires inputs → n ≤ length net.wires → AreHeld net.wires (values_of (steps_of net.wires (length net.wires)) inputs n) n
+values_held : (net : NetData) (inputs : List ℤ) (n : ℕ) → IsValid net → AreTyped net inputs → n ≤ length net.wires → AreHeld net (values_of (steps_of net (length net.wires)) inputs n) n
 unfolding values_of
 values_held net inputs zero valid typed le k lt = absurd (omega arith)
 values_held net inputs (suc n) valid typed le k lt =
     push_each (values_of steps inputs n) _ (pos 0) (λ m v. IsInKind (wire_at net.wires m).kind v) n (length-values_of steps inputs n) (values_held net inputs n valid typed (omega arith)) here k lt
   where
     steps : List Step
-    steps = steps_of net.wires (length net.wires)
+    steps = steps_of net (length net.wires)
 
     here : IsInKind (wire_at net.wires n).kind (step_value (step_at steps n) inputs (values_of steps inputs n))
-    here = subst (λ s. IsInKind (wire_at net.wires n).kind (step_value s inputs (values_of steps inputs n))) (sym (step_at-steps_of net.wires (length net.wires) n (omega arith))) (value_held net inputs _ n (wire_at net.wires n).item valid typed (omega arith) refl)
+    here = subst (λ s. IsInKind (wire_at net.wires n).kind (step_value s inputs (values_of steps inputs n))) (sym (step_at-steps_of net (length net.wires) n (omega arith))) (value_held net inputs _ n (wire_at net.wires n).item valid typed (omega arith) refl)
 
 -- ---- each step is ready
 
 -- so is an argument of its type
-given_held : (wires : List Wire) (values : List ℤ) (i : ℕ) (first : WireNo) (ty : Option Ty) (a : WireNo) → AreHeld wires values i → IsGoodArgument wires i first ty a → IfSome ty (λ t. Holds t (value_at values a.0))
-given_held wires values i first (Some ty) a held g =
-    let k = number_kind ty (wire_at wires a.0).kind g.number in kind_held ty _ k.0 _ k.1 (held a.0 g.earlier)
-given_held wires values i first None a held g = tt
+given_held : (net : NetData) (values : List ℤ) (i : ℕ) (first : WireNo) (ty : Option Ty) (a : WireNo) → AreHeld net values i → IsGoodArgument net i first ty a → IfSome ty (λ t. Holds t (value_at values a.0))
+given_held net values i first (Some ty) a held g =
+    let k = number_kind ty (wire_at net.wires a.0).kind g.number in kind_held ty _ k.0 _ k.1 (held a.0 g.earlier)
+given_held net values i first None a held g = tt
 
-item_ready : (net : NetData) (inputs values : List ℤ) (i : ℕ) (item : Item) → IsValid net → length inputs ≡ length (inputs_of net.wires) → i < length net.wires → length values ≡ i → AreHeld net.wires values i → (wire_at net.wires i).item ≡ item → IsReady (item_step net.wires i item) inputs values
+item_ready : (net : NetData) (inputs values : List ℤ) (i : ℕ) (item : Item) → IsValid net → length inputs ≡ length (inputs_of net.wires) → i < length net.wires → length values ≡ i → AreHeld net values i → (wire_at net.wires i).item ≡ item → IsReady (item_step net i item) inputs values
 item_ready net inputs values i (Input lo hi) valid one_each lt len held e =
     omega (arith, one_each, place_below net.wires i lt (ap is_input e))
 item_ready net inputs values i (Const value) valid one_each lt len held e = tt
 item_ready net inputs values i (OfBlock (Arith op v x y z sh)) valid one_each lt len held e =
     let g = arith-valid net i op v x y z sh valid lt e in
     let types = argument_types op v in
-    (omega (arith, len, g.earlier_x), omega (arith, len, g.earlier_y), omega (arith, len, g.earlier_z), g.taken, arguments_held op v _ _ _ (given_held net.wires values i x (slice_get types 0) x held g.first) (given_held net.wires values i x (slice_get types 1) y held g.second) (given_held net.wires values i x (slice_get types 2) z held g.third), shift_from_test op sh g.shift)
+    (omega (arith, len, g.earlier_x), omega (arith, len, g.earlier_y), omega (arith, len, g.earlier_z), g.taken, arguments_held op v _ _ _ (given_held net values i x (slice_get types 0) x held g.first) (given_held net values i x (slice_get types 1) y held g.second) (given_held net values i x (slice_get types 2) z held g.third), shift_from_test op sh g.shift)
 item_ready net inputs values i (OfBlock (Scaled op v x y)) valid one_each lt len held e =
     let g = scaled-valid net i op v x y valid lt e in
     let types = scaled_types op v in
-    (omega (arith, len, g.earlier_x), omega (arith, len, g.earlier_y), scaled_arguments_held op v _ _ (given_held net.wires values i x (slice_get types 0) x held g.first) (given_held net.wires values i x (slice_get types 1) y held g.second), point_of-valid net x.0 valid (omega (arith, lt, g.earlier_x)), point_of-valid net y.0 valid (omega (arith, lt, g.earlier_y)), point_of-valid net i valid lt)
+    (omega (arith, len, g.earlier_x), omega (arith, len, g.earlier_y), scaled_arguments_held op v _ _ (given_held net values i x (slice_get types 0) x held g.first) (given_held net values i x (slice_get types 1) y held g.second), point_of-valid net x.0 valid (omega (arith, lt, g.earlier_x)), point_of-valid net y.0 valid (omega (arith, lt, g.earlier_y)), point_of-valid net i valid lt)
 
-all_ready : (net : NetData) (inputs : List ℤ) → IsValid net → length inputs ≡ length (inputs_of net.wires) → AreTyped net.wires inputs → AreReady (steps_of net.wires (length net.wires)) inputs
+all_ready : (net : NetData) (inputs : List ℤ) → IsValid net → length inputs ≡ length (inputs_of net.wires) → AreTyped net inputs → AreReady (steps_of net (length net.wires)) inputs
 all_ready net inputs valid one_each typed i below =
-    subst (λ s. IsReady s inputs (values_of (steps_of net.wires (length net.wires)) inputs i)) (sym (step_at-steps_of net.wires (length net.wires) i lt)) (item_ready net inputs _ i (wire_at net.wires i).item valid one_each lt (length-values_of _ inputs i) (values_held net inputs i valid typed (omega (arith, lt))) refl)
+    subst (λ s. IsReady s inputs (values_of (steps_of net (length net.wires)) inputs i)) (sym (step_at-steps_of net (length net.wires) i lt)) (item_ready net inputs _ i (wire_at net.wires i).item valid one_each lt (length-values_of _ inputs i) (values_held net inputs i valid typed (omega (arith, lt))) refl)
   where
     lt : i < length net.wires
-    lt = omega (arith, below, length-steps_of net.wires (length net.wires))
+    lt = omega (arith, below, length-steps_of net (length net.wires))
 
 -- ---- the values are the row's
 
@@ -167,7 +167,7 @@ value_at-values : (cells : List (Cell ℤ)) (k : ℕ) → value_at (values cells
 unfolding machine
 value_at-values cells k = get_or-map (λ (c : Cell ℤ). c.value) cells k (plain machine (pos 0))
 
-step_cell : (net : NetData) (inputs : List ℤ) (rows : List (List ℤ)) (past : List (List (Cell ℤ))) (cells : List (Cell ℤ)) (i : ℕ) (item : Item) → IsValid net → i < length net.wires → (wire_at net.wires i).item ≡ item → step_value (item_step net.wires i item) inputs (values cells) ≡ (equation_of machine net.wires (inputs ∷ rows) (cell_at machine (cells ∷ past)) i item).value
+step_cell : (net : NetData) (inputs : List ℤ) (rows : List (List ℤ)) (past : List (List (Cell ℤ))) (cells : List (Cell ℤ)) (i : ℕ) (item : Item) → IsValid net → i < length net.wires → (wire_at net.wires i).item ≡ item → step_value (item_step net i item) inputs (values cells) ≡ (equation_of machine net (inputs ∷ rows) (cell_at machine (cells ∷ past)) i item).value
 unfolding equation_of machine machine_cell formula state_formula quotient_of
 step_cell net inputs rows past cells i (Input lo hi) valid lt e = refl
 step_cell net inputs rows past cells i (Const value) valid lt e = refl
@@ -177,24 +177,24 @@ step_cell net inputs rows past cells i (OfBlock (Arith op v x y z sh)) valid lt 
     ∙ arith_value-is op v.o (wire_at net.wires i).kind k.0 (λ p. (cell_at machine (cells ∷ past) 0 (argument_of (Arith op v x y z sh) p)).value) sh k.1
 step_cell net inputs rows past cells i (OfBlock (Scaled op v x y)) valid lt e =
     let k = number_kind v.o (wire_at net.wires i).kind (scaled-valid net i op v x y valid lt e).output in
-    let points = points_of net.wires (wire_at net.wires i).kind (Scaled op v x y) in
+    let points = points_of net (wire_at net.wires i).kind (Scaled op v x y) in
     ap₂ (λ a b. scaled_value op v.o a b points) (value_at-values cells x.0) (value_at-values cells y.0)
     ∙ scaled_value-is op v.o (wire_at net.wires i).kind k.0 (λ p. (cell_at machine (cells ∷ past) 0 (argument_of (Scaled op v x y) p)).value) points k.1
 
 -- one more value is that of one more cell
-values_next : (net : NetData) (inputs : List ℤ) (rows : List (List ℤ)) (past : List (List (Cell ℤ))) (n : ℕ) → IsValid net → n < length net.wires → values_of (steps_of net.wires (length net.wires)) inputs n ≡ values (row_of machine net.wires (inputs ∷ rows) past n) → step_value (step_at (steps_of net.wires (length net.wires)) n) inputs (values_of (steps_of net.wires (length net.wires)) inputs n) ≡ (equation machine net.wires (inputs ∷ rows) (cell_at machine (row_of machine net.wires (inputs ∷ rows) past n ∷ past)) n).value
+values_next : (net : NetData) (inputs : List ℤ) (rows : List (List ℤ)) (past : List (List (Cell ℤ))) (n : ℕ) → IsValid net → n < length net.wires → values_of (steps_of net (length net.wires)) inputs n ≡ values (row_of machine net (inputs ∷ rows) past n) → step_value (step_at (steps_of net (length net.wires)) n) inputs (values_of (steps_of net (length net.wires)) inputs n) ≡ (equation machine net (inputs ∷ rows) (cell_at machine (row_of machine net (inputs ∷ rows) past n ∷ past)) n).value
 values_next net inputs rows past n valid lt before =
-    ap (λ s. step_value s inputs (values_of (steps_of net.wires (length net.wires)) inputs n)) (step_at-steps_of net.wires (length net.wires) n lt)
-    ∙ ap (step_value (item_step net.wires n (wire_at net.wires n).item) inputs) before
-    ∙ step_cell net inputs rows past (row_of machine net.wires (inputs ∷ rows) past n) n (wire_at net.wires n).item valid lt refl
+    ap (λ s. step_value s inputs (values_of (steps_of net (length net.wires)) inputs n)) (step_at-steps_of net (length net.wires) n lt)
+    ∙ ap (step_value (item_step net n (wire_at net.wires n).item) inputs) before
+    ∙ step_cell net inputs rows past (row_of machine net (inputs ∷ rows) past n) n (wire_at net.wires n).item valid lt refl
 
-values_row : (net : NetData) (inputs : List ℤ) (rows : List (List ℤ)) (past : List (List (Cell ℤ))) (n : ℕ) → IsValid net → n ≤ length net.wires → values_of (steps_of net.wires (length net.wires)) inputs n ≡ values (row_of machine net.wires (inputs ∷ rows) past n)
+values_row : (net : NetData) (inputs : List ℤ) (rows : List (List ℤ)) (past : List (List (Cell ℤ))) (n : ℕ) → IsValid net → n ≤ length net.wires → values_of (steps_of net (length net.wires)) inputs n ≡ values (row_of machine net (inputs ∷ rows) past n)
 unfolding values_of row_of
 values_row net inputs rows past zero valid le = refl
 values_row net inputs rows past (suc n) valid le =
     let before = values_row net inputs rows past n valid (omega arith) in
     ap₂ (λ l x. l ++ x ∷ []) before (values_next net inputs rows past n valid (omega arith) before)
-    ∙ sym (map-append (λ (c : Cell ℤ). c.value) (row_of machine net.wires (inputs ∷ rows) past n) _)
+    ∙ sym (map-append (λ (c : Cell ℤ). c.value) (row_of machine net (inputs ∷ rows) past n) _)
 
 -- ---- what a plan keeps and answers
 
@@ -208,24 +208,24 @@ nothing_kept rows cells i (w ∷ wires) = nothing_kept rows cells (i + 1) wires 
     of_item (OfBlock b) = refl
 
 pub after_all : (net : NetData) (rows : List (List ℤ)) → IsAfter net rows []
-after_all net rows = nothing_kept rows (table machine net.wires rows) 0 net.wires
+after_all net rows = nothing_kept rows (table machine net rows) 0 net.wires
 
 pub after_along : (p : PlanData) (net : NetData) (rows : List (List ℤ)) → record { net = net; kept = [] } ≡ p → IsAfter p.net rows p.kept
 after_along p net rows e = subst (λ (q : PlanData). IsAfter q.net rows q.kept) e (after_all net rows)
 
 -- the outputs that are read off the values
-outputs : (net : NetData) (inputs : List ℤ) (rows : List (List ℤ)) → IsValid net → map (λ o. value_at (values_of (steps_of net.wires (length net.wires)) inputs (length net.wires)) o.0) net.outs ≡ outputs_of net (inputs ∷ rows)
+outputs : (net : NetData) (inputs : List ℤ) (rows : List (List ℤ)) → IsValid net → map (λ o. value_at (values_of (steps_of net (length net.wires)) inputs (length net.wires)) o.0) net.outs ≡ outputs_of net (inputs ∷ rows)
 unfolding outputs_of table
 outputs net inputs rows valid = ap (λ f. map f net.outs) same
   where
     cells : List (Cell ℤ)
-    cells = row_of machine net.wires (inputs ∷ rows) (table machine net.wires rows) (length net.wires)
+    cells = row_of machine net (inputs ∷ rows) (table machine net rows) (length net.wires)
 
-    each : (o : WireNo) → value_at (values_of (steps_of net.wires (length net.wires)) inputs (length net.wires)) o.0 ≡ (get_or cells o.0 (plain machine (pos 0))).value
-    each o = ap (λ l. value_at l o.0) (values_row net inputs rows (table machine net.wires rows) (length net.wires) valid (omega arith)) ∙ value_at-values cells o.0
+    each : (o : WireNo) → value_at (values_of (steps_of net (length net.wires)) inputs (length net.wires)) o.0 ≡ (get_or cells o.0 (plain machine (pos 0))).value
+    each o = ap (λ l. value_at l o.0) (values_row net inputs rows (table machine net rows) (length net.wires) valid (omega arith)) ∙ value_at-values cells o.0
 
     read : WireNo → ℤ
-    read o = value_at (values_of (steps_of net.wires (length net.wires)) inputs (length net.wires)) o.0
+    read o = value_at (values_of (steps_of net (length net.wires)) inputs (length net.wires)) o.0
 
     shown : WireNo → ℤ
     shown o = (get_or cells o.0 (plain machine (pos 0))).value
@@ -236,9 +236,9 @@ outputs net inputs rows valid = ap (λ f. map f net.outs) same
 -- what the fields of a plan say of its steps
 pub record IsResolved (net : NetData) (steps : List Step) : Type 0 where
   pub valid : IsValid net
-  pub resolved : steps ≡ steps_of net.wires (length net.wires)
+  pub resolved : steps ≡ steps_of net (length net.wires)
 
-pub resolved_from : (net : NetData) (steps items : List Step) → IsValid net → steps ≡ items → items ≡ steps_of net.wires (length net.wires) → IsResolved net steps
+pub resolved_from : (net : NetData) (steps items : List Step) → IsValid net → steps ≡ items → items ≡ steps_of net (length net.wires) → IsResolved net steps
 resolved_from net steps items valid e h = record { valid = valid; resolved = e ∙ h }
 
 pub step_outputs : (p : PlanData) (net : NetData) (steps : List Step) (inputs out : List ℤ) (outs : List WireNo) (rows : List (List ℤ)) → record { net = net; kept = [] } ≡ p → IsResolved net steps → outs ≡ net.outs → out ≡ map (λ o. value_at (values_of steps inputs (length steps)) o.0) outs → out ≡ outputs_of p.net (inputs ∷ rows)
@@ -248,16 +248,16 @@ step_outputs p net steps inputs out outs rows e r named read =
     n : ℕ
     n = length net.wires
 
-    full : values_of steps inputs (length steps) ≡ values_of (steps_of net.wires n) inputs n
-    full = ap (λ s. values_of s inputs (length s)) r.resolved ∙ ap (values_of (steps_of net.wires n) inputs) (length-steps_of net.wires n)
+    full : values_of steps inputs (length steps) ≡ values_of (steps_of net n) inputs n
+    full = ap (λ s. values_of s inputs (length s)) r.resolved ∙ ap (values_of (steps_of net n) inputs) (length-steps_of net n)
 
 pub length-steps : (net : NetData) (steps : List Step) → IsResolved net steps → length steps ≡ length net.wires
-length-steps net steps r = ap length r.resolved ∙ length-steps_of net.wires (length net.wires)
+length-steps net steps r = ap length r.resolved ∙ length-steps_of net (length net.wires)
 
 pub outs_there : (net : NetData) (steps : List Step) (outs : List WireNo) → IsResolved net steps → outs ≡ net.outs → AreBelow outs (length steps)
 outs_there net steps outs r named =
     subst (λ os. AreBelow os (length steps)) (sym named) (subst (AreBelow net.outs) (sym (length-steps net steps r)) (outs_below net r.valid))
 
-pub steps_ready : (p : PlanData) (net : NetData) (steps : List Step) (inputs : List ℤ) → record { net = net; kept = [] } ≡ p → IsResolved net steps → length inputs ≡ length (inputs_of p.net.wires) → AreTyped p.net.wires inputs → AreReady steps inputs
+pub steps_ready : (p : PlanData) (net : NetData) (steps : List Step) (inputs : List ℤ) → record { net = net; kept = [] } ≡ p → IsResolved net steps → length inputs ≡ length (inputs_of p.net.wires) → AreTyped p.net inputs → AreReady steps inputs
 steps_ready p net steps inputs e r one_each typed =
-    subst (λ s. AreReady s inputs) (sym r.resolved) (all_ready net inputs r.valid (subst (λ (q : PlanData). length inputs ≡ length (inputs_of q.net.wires)) (sym e) one_each) (subst (λ (q : PlanData). AreTyped q.net.wires inputs) (sym e) typed))
+    subst (λ s. AreReady s inputs) (sym r.resolved) (all_ready net inputs r.valid (subst (λ (q : PlanData). length inputs ≡ length (inputs_of q.net.wires)) (sym e) one_each) (subst (λ (q : PlanData). AreTyped q.net inputs) (sym e) typed))

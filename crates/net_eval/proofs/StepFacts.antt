@@ -41,13 +41,13 @@ small_place net wires i place valid same lt is =
     omega (arith, length-take-le i net.wires here)
 
 -- no step yet, and one more step
-pub steps_start : (wires : List Wire) → [] ≡ steps_of wires 0
+pub steps_start : (net : NetData) → [] ≡ steps_of net 0
 unfolding steps_of
-steps_start wires = refl
+steps_start net = refl
 
-pub steps_push : (wires : List Wire) (i : ℕ) (steps : List Step) (step : Step) → step ≡ item_step wires i (wire_at wires i).item → steps ≡ steps_of wires i → steps ++ step ∷ [] ≡ steps_of wires (i + 1)
+pub steps_push : (net : NetData) (i : ℕ) (steps : List Step) (step : Step) → step ≡ item_step net i (wire_at net.wires i).item → steps ≡ steps_of net i → steps ++ step ∷ [] ≡ steps_of net (i + 1)
 unfolding steps_of
-steps_push wires i steps step h e = ap₂ (λ s t. s ++ t ∷ []) e h ∙ sym (ap (steps_of wires) (add-one i))
+steps_push net i steps step h e = ap₂ (λ s t. s ++ t ∷ []) e h ∙ sym (ap (steps_of net) (add-one i))
 
 -- one more wire's place
 pub place_next : (wires : List Wire) (i : ℕ) → i < length wires → is_input (wire_at wires i).item ≡ true → input_place wires (i + 1) ≡ input_place wires i + 1

@@ -26,8 +26,8 @@ kept_from rows cells i (w ∷ wires) = kept_by w.item rows cells i ++ kept_from 
 
 -- this is what an evaluator keeps after the rows
 abbrev pub IsAfter : NetData → List (List ℤ) → List ℤ → Type 0
-IsAfter net rows kept = kept ≡ kept_from rows (table machine net.wires rows) 0 net.wires
+IsAfter net rows kept = kept ≡ kept_from rows (table machine net rows) 0 net.wires
 
 -- the values of the output wires at the newest row
 unfoldable pub outputs_of : NetData → List (List ℤ) → List ℤ
-outputs_of net rows = map (λ o. (cell_at machine (table machine net.wires rows) 0 o.0).value) net.outs
+outputs_of net rows = map (λ o. (cell_at machine (table machine net rows) 0 o.0).value) net.outs

@@ -10,28 +10,27 @@ use Rattle.net_model.specs.declared.wires.Block.{Block}
 use Rattle.net_model.specs.declared.wires.Block.TheVariants.{Arith, Scaled}
 use Rattle.net_model.specs.declared.wires.Item.{Item}
 use Rattle.net_model.specs.declared.wires.Item.TheVariants.{Input, Const, Block as OfBlock}
-use Rattle.net_model.specs.declared.wires.Wire.{Wire}
-use Rattle.net_model.specs.Wires.{wire_at, input_place}
+use Rattle.net_model.specs.Wires.{NetData, wire_at, input_place}
 use Rattle.net_model.specs.Built.{most_shift}
 use Rattle.net_meaning.specs.Blocks.{points_of}
 use Rattle.net_eval.specs.declared.resolving.Step.{Step}
 use Rattle.net_eval.specs.declared.resolving.Step.TheVariants.{Read, Fixed, Arith as ArithStep, Scaled as ScaledStep}
 
 -- the step of a block on a wire of a kind
-abbrev pub block_step : List Wire → Kind → Block → Step
-block_step wires kind (Arith op v x y z shift) = ArithStep op v x.0 y.0 z.0 shift
-block_step wires kind (Scaled op v x y) = ScaledStep op v x.0 y.0 (points_of wires kind (Scaled op v x y))
+abbrev pub block_step : NetData → Kind → Block → Step
+block_step net kind (Arith op v x y z shift) = ArithStep op v x.0 y.0 z.0 shift
+block_step net kind (Scaled op v x y) = ScaledStep op v x.0 y.0 (points_of net kind (Scaled op v x y))
 
 -- the step of wire i, by its item
-abbrev pub item_step : List Wire → ℕ → Item → Step
-item_step wires i (Input lo hi) = Read (input_place wires i)
-item_step wires i (Const value) = Fixed value
-item_step wires i (OfBlock b) = block_step wires (wire_at wires i).kind b
+abbrev pub item_step : NetData → ℕ → Item → Step
+item_step net i (Input lo hi) = Read (input_place net.wires i)
+item_step net i (Const value) = Fixed value
+item_step net i (OfBlock b) = block_step net (wire_at net.wires i).kind b
 
 -- the steps of the first n wires
-unfoldable pub steps_of : List Wire → ℕ → List Step
-steps_of wires zero = []
-steps_of wires (suc n) = steps_of wires n ++ item_step wires n (wire_at wires n).item ∷ []
+unfoldable pub steps_of : NetData → ℕ → List Step
+steps_of net zero = []
+steps_of net (suc n) = steps_of net n ++ item_step net n (wire_at net.wires n).item ∷ []
 
 -- step number i, from 0
 abbrev pub step_at : List Step → ℕ → Step

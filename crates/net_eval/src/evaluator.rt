@@ -30,7 +30,7 @@ impl<'a> Model for Plan<'a> {
     ghost view = { λ p. record { net = p.net.now; kept = [] } };
 
     ghost invariant = { λ p. IsValid p.net.now
-        × (p.steps.items ≡ steps_of p.net.now.wires (length p.net.now.wires))
+        × (p.steps.items ≡ steps_of p.net.now (length p.net.now.wires))
         × (length p.values.items ≡ length p.net.now.wires) };
 }
 
@@ -49,7 +49,7 @@ impl<'a> Plan<'a> {
     /// kind, and writes the value of each output in the order of printing.
     pub fn step(&mut self, inputs: &[i64], out: &mut [i64])
         requires one_each { length inputs.now ≡ length (inputs_of self.old.net.wires) }
-        requires typed { AreTyped self.old.net.wires inputs.now }
+        requires typed { AreTyped self.old.net inputs.now }
         requires outs { length out.old ≡ length self.old.net.outs }
         ensures net { self.new.net ≡ self.old.net }
         ensures after { (rows : List (List ℤ)) → IsAfter self.old.net rows self.old.kept

@@ -43,7 +43,7 @@ pub(crate) enum Step {
 /// The steps of a network, one for each wire.
 #[tactic(auto, using(crate::proofs::StepFacts::steps_start))]
 pub(crate) fn resolve(alloc: Global, net: &Network) -> Result<Vec<Step>, AllocError>
-    ensures { IfOk result (λ steps. steps.items ≡ steps_of net.now.wires (length net.now.wires)) }
+    ensures { IfOk result (λ steps. steps.items ≡ steps_of net.now (length net.now.wires)) }
 {
     let mut steps = Vec::new(alloc);
     let mut inputs = 0;
@@ -63,7 +63,7 @@ fn step_of(net: &Network, wire: WireNo, place: usize) -> Step
     requires valid { IsValid net.now }
     requires there { wire.0 < length net.now.wires }
     requires place { place ≡ input_place net.now.wires wire.0 }
-    ensures { result ≡ item_step net.now.wires wire.0 (wire_at net.now.wires wire.0).item }
+    ensures { result ≡ item_step net.now wire.0 (wire_at net.now.wires wire.0).item }
 {
     match item_at(net, wire) {
         Item::Input { .. } => Step::Read { place },
@@ -77,7 +77,7 @@ fn block_step(net: &Network, wire: WireNo, block: Block) -> Step
     requires valid { IsValid net.now }
     requires there { wire.0 < length net.now.wires }
     requires block { (wire_at net.now.wires wire.0).item ≡ Item.Block block }
-    ensures { result ≡ block_step net.now.wires (wire_at net.now.wires wire.0).kind block }
+    ensures { result ≡ block_step net.now (wire_at net.now.wires wire.0).kind block }
 {
     match block {
         Block::Arith { op, v, x, y, z, sh } => Step::Arith {

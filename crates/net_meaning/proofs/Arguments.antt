@@ -1,9 +1,8 @@
 -- In a valid network the arguments of each block are earlier wires.
-use Rattle.std.specs.Prelude.{◌≡◌, ℕ, ◌<◌, List, length}
+use Rattle.std.specs.Prelude.{◌≡◌, ℕ, ◌<◌, length}
 use Rattle.std.proofs.Common.{refl}
 use Rattle.net_model.specs.declared.wires.Item.{Item}
 use Rattle.net_model.specs.declared.wires.Item.TheVariants.{Input, Const, Block as OfBlock}
-use Rattle.net_model.specs.declared.wires.Wire.{Wire}
 use Rattle.net_model.specs.Wires.{NetData, wire_at, argument_of}
 use Rattle.net_model.specs.Validity.{IsValid}
 use Rattle.net_model.proofs.ValidityFacts.{argument_of-valid}
@@ -14,11 +13,11 @@ ArgumentsEarlier i (Input lo hi) = Unit {0}
 ArgumentsEarlier i (Const value) = Unit {0}
 ArgumentsEarlier i (OfBlock b) = (p : ℕ) → argument_of b p < i
 
--- each block of the wires reads earlier wires
-abbrev pub IsOrdered : List Wire → Type 0
-IsOrdered wires = (i : ℕ) → i < length wires → ArgumentsEarlier i (wire_at wires i).item
+-- each block of the network reads earlier wires
+abbrev pub IsOrdered : NetData → Type 0
+IsOrdered net = (i : ℕ) → i < length net.wires → ArgumentsEarlier i (wire_at net.wires i).item
 
-pub arguments_earlier : (net : NetData) → IsValid net → IsOrdered net.wires
+pub arguments_earlier : (net : NetData) → IsValid net → IsOrdered net
 arguments_earlier net valid i h = of_item (wire_at net.wires i).item refl
   where
     of_item : (item : Item) → (wire_at net.wires i).item ≡ item → ArgumentsEarlier i item

@@ -9,28 +9,31 @@ use Rattle.fx_routines.specs.declared.operation.ScaledOp.TheVariants.{Convert}
 use Rattle.net_model.specs.declared.wires.Kind.TheVariants.{Num}
 use Rattle.net_model.specs.declared.wires.Block.TheVariants.{Arith, Scaled}
 use Rattle.net_model.specs.declared.wires.Item.TheVariants.{Input, Block as OfBlock}
-use Rattle.net_model.specs.declared.wires.Wire.{Wire}
+use Rattle.net_model.specs.Wires.{NetData}
 use Rattle.mfx_scaled.specs.Formulas.{point_factor}
 use Rattle.net_meaning.specs.Cells.{cell_at}
 use Rattle.net_meaning.specs.Blocks.{formula, state_formula, quotient_of, machine, machine_cell, machine_state_of, exact, exact_cell}
 use Rattle.net_meaning.specs.Runs.{equation_of, row_of, table}
 
-wires : List Wire
-wires =
+net : NetData
+net = record {
+  wires =
     record { name = codes "a"; kind = Num S16 0; item = Input (negsuc 999) (pos 32767) } ∷
     record { name = codes "b"; kind = Num S16 4; item = Input (negsuc 159) (pos 160) } ∷
     record { name = codes "c"; kind = Num S16 0; item = OfBlock (Scaled Convert (record { x = S16; y = S16; o = S16 }) (record { 0 = 1 }) (record { 0 = 1 })) } ∷
-    record { name = codes "s"; kind = Num S16 0; item = OfBlock (Arith Add (record { x = S16; y = S16; o = S16 }) (record { 0 = 0 }) (record { 0 = 2 }) (record { 0 = 0 }) 0) } ∷ []
+    record { name = codes "s"; kind = Num S16 0; item = OfBlock (Arith Add (record { x = S16; y = S16; o = S16 }) (record { 0 = 0 }) (record { 0 = 2 }) (record { 0 = 0 }) 0) } ∷ [];
+  outs = record { 0 = 3 } ∷ [];
+}
 
 rows : List (List ℤ)
 rows = (pos 32767 ∷ pos 24 ∷ []) ∷ (negsuc 0 ∷ negsuc 23 ∷ []) ∷ []
 
 -- the machine rounds toward zero and saturates
-machine_values : map (map (λ c. c.value)) (table machine wires rows) ≡ (pos 32767 ∷ pos 24 ∷ pos 1 ∷ pos 32767 ∷ []) ∷ (negsuc 0 ∷ negsuc 23 ∷ negsuc 0 ∷ negsuc 1 ∷ []) ∷ []
-unfolding wires rows table row_of equation_of machine machine_cell machine_state_of formula state_formula quotient_of point_factor rounded whole over plus times
+machine_values : map (map (λ c. c.value)) (table machine net rows) ≡ (pos 32767 ∷ pos 24 ∷ pos 1 ∷ pos 32767 ∷ []) ∷ (negsuc 0 ∷ negsuc 23 ∷ negsuc 0 ∷ negsuc 1 ∷ []) ∷ []
+unfolding net rows table row_of equation_of machine machine_cell machine_state_of formula state_formula quotient_of point_factor rounded whole over plus times
 machine_values = refl
 
 -- the exact values do neither
-exact_value : (cell_at exact (table exact wires rows) 0 3).value ≡ over (pos 524296) 16
-unfolding wires rows table row_of equation_of exact exact_cell formula state_formula quotient_of point_factor whole over plus times
+exact_value : (cell_at exact (table exact net rows) 0 3).value ≡ over (pos 524296) 16
+unfolding net rows table row_of equation_of exact exact_cell formula state_formula quotient_of point_factor whole over plus times
 exact_value = refl

@@ -10,17 +10,16 @@ use Rattle.mfx_scaled.specs.declared.binary_points.Points.{Points}
 use Rattle.net_model.specs.declared.wires.Kind.{Kind}
 use Rattle.net_model.specs.declared.wires.Block.{Block}
 use Rattle.net_model.specs.declared.wires.Block.TheVariants.{Arith, Scaled}
-use Rattle.net_model.specs.declared.wires.Wire.{Wire}
-use Rattle.net_model.specs.Wires.{wire_at, argument_of, point_of, kind_least, kind_greatest}
+use Rattle.net_model.specs.Wires.{NetData, wire_at, argument_of, point_of, kind_least, kind_greatest}
 use Rattle.mfx_scaled.specs.Formulas.{scaled_formula, quotient_of as scaled_quotient}
 use Rattle.mfx_arith.specs.Formulas.{arith_formula, quotient_of as arith_quotient}
 use Rattle.net_meaning.specs.Cells.{Cell, Meaning}
 
 -- the binary points of a block's arguments and of its own wire
-abbrev pub points_of : List Wire → Kind → Block → Points
-points_of wires kind b = record {
-  a = point_of (wire_at wires (argument_of b 0)).kind;
-  b = point_of (wire_at wires (argument_of b 1)).kind;
+abbrev pub points_of : NetData → Kind → Block → Points
+points_of net kind b = record {
+  a = point_of (wire_at net.wires (argument_of b 0)).kind;
+  b = point_of (wire_at net.wires (argument_of b 1)).kind;
   c = point_of kind;
 }
 
@@ -30,19 +29,19 @@ mode_of (Arith op v x y z shift) = Zero
 mode_of (Scaled op v x y) = Zero
 
 -- a block's value, unrounded, from what it reads and its new state
-unfoldable pub formula : List Wire → Kind → Block → (ℕ → ℕ → Fraction) → Fraction → Fraction
-formula wires kind (Arith op v x y z shift) given state = arith_formula op shift (λ p. given p 0)
-formula wires kind (Scaled op v x y) given state = scaled_formula op (points_of wires kind (Scaled op v x y)) (λ p. given p 0)
+unfoldable pub formula : NetData → Kind → Block → (ℕ → ℕ → Fraction) → Fraction → Fraction
+formula net kind (Arith op v x y z shift) given state = arith_formula op shift (λ p. given p 0)
+formula net kind (Scaled op v x y) given state = scaled_formula op (points_of net kind (Scaled op v x y)) (λ p. given p 0)
 
 -- the new state Y of a block, unrounded, from what it reads and its old state; none where the block has no Y
-unfoldable pub state_formula : List Wire → Block → (ℕ → ℕ → Fraction) → Fraction → Option Fraction
-state_formula wires (Arith op v x y z shift) given old = None
-state_formula wires (Scaled op v x y) given old = None
+unfoldable pub state_formula : NetData → Block → (ℕ → ℕ → Fraction) → Fraction → Option Fraction
+state_formula net (Arith op v x y z shift) given old = None
+state_formula net (Scaled op v x y) given old = None
 
 -- the dividend and the divisor of a block that divides, from what it reads
-unfoldable pub quotient_of : List Wire → Kind → Block → (ℕ → ℕ → Fraction) → Option (Fraction × Fraction)
-quotient_of wires kind (Arith op v x y z shift) given = arith_quotient op shift (λ p. given p 0)
-quotient_of wires kind (Scaled op v x y) given = scaled_quotient op (points_of wires kind (Scaled op v x y)) (λ p. given p 0)
+unfoldable pub quotient_of : NetData → Kind → Block → (ℕ → ℕ → Fraction) → Option (Fraction × Fraction)
+quotient_of net kind (Arith op v x y z shift) given = arith_quotient op shift (λ p. given p 0)
+quotient_of net kind (Scaled op v x y) given = scaled_quotient op (points_of net kind (Scaled op v x y)) (λ p. given p 0)
 
 -- the least state Y, as a raw count with 16 fractional bits
 abbrev pub state_least : ℤ
@@ -81,21 +80,21 @@ machine_cell mode kind state quotient value = record {
 }
 
 -- a block's state in the machine before saturation, from what it reads and its state a row earlier
-unfoldable pub machine_state_of : List Wire → Block → (ℕ → ℕ → ℤ) → ℤ → ℤ
-machine_state_of wires b given old = machine_state (state_formula wires b (as_fractions given) (whole old))
+unfoldable pub machine_state_of : NetData → Block → (ℕ → ℕ → ℤ) → ℤ → ℤ
+machine_state_of net b given old = machine_state (state_formula net b (as_fractions given) (whole old))
 
 -- a block's value in the machine before it is rounded, from what it reads and its state at this row
-abbrev pub machine_formula : List Wire → Kind → Block → (ℕ → ℕ → ℤ) → ℤ → Fraction
-machine_formula wires kind b given state = formula wires kind b (as_fractions given) (whole state)
+abbrev pub machine_formula : NetData → Kind → Block → (ℕ → ℕ → ℤ) → ℤ → Fraction
+machine_formula net kind b given state = formula net kind b (as_fractions given) (whole state)
 
 -- the machine: whole numbers, each formula rounded once and saturated
 unfoldable pub machine : Meaning ℤ
 machine = record {
   of_whole = λ z. z;
-  of_block = λ wires kind b given before.
-      let state = machine_state_of wires b given before.state in
-      let quotient = quotient_of wires kind b (as_fractions given) in
-      machine_cell (mode_of b) kind state quotient (machine_formula wires kind b given (saturated_state state));
+  of_block = λ net kind b given before.
+      let state = machine_state_of net b given before.state in
+      let quotient = quotient_of net kind b (as_fractions given) in
+      machine_cell (mode_of b) kind state quotient (machine_formula net kind b given (saturated_state state));
 }
 
 -- an exact cell, which has nothing to saturate, from its state and its value
@@ -106,7 +105,7 @@ exact_cell state value = record { state = state; state_unsaturated = state; valu
 unfoldable pub exact : Meaning Fraction
 exact = record {
   of_whole = whole;
-  of_block = λ wires kind b given before.
-      let state = exact_state (state_formula wires b given before.state) in
-      exact_cell state (formula wires kind b given state);
+  of_block = λ net kind b given before.
+      let state = exact_state (state_formula net b given before.state) in
+      exact_cell state (formula net kind b given state);
 }

@@ -2,8 +2,7 @@
 use Rattle.std.specs.Prelude.{ℕ, ◌+◌, ℤ, pos, List, [], get_or}
 use Rattle.net_model.specs.declared.wires.Kind.{Kind}
 use Rattle.net_model.specs.declared.wires.Block.{Block}
-use Rattle.net_model.specs.declared.wires.Wire.{Wire}
-use Rattle.net_model.specs.Wires.{argument_of}
+use Rattle.net_model.specs.Wires.{NetData, argument_of}
 
 -- what a wire holds at one row
 pub record Cell (V : Type 0) : Type 0 where
@@ -20,9 +19,9 @@ pub record Cell (V : Type 0) : Type 0 where
 pub record Meaning (V : Type 0) : Type 0 where
   -- of a whole number
   pub of_whole : ℤ → V
-  -- by a block, from all wires, the kind of its own wire, what it reads and its cell of the row before; `given p ago` is
+  -- by a block, from the network, the kind of its own wire, what it reads and its cell of the row before; `given p ago` is
   -- the value of argument number p so many rows ago, and 0 before the first row
-  pub of_block : List Wire → Kind → Block → (ℕ → ℕ → V) → Cell V → Cell V
+  pub of_block : NetData → Kind → Block → (ℕ → ℕ → V) → Cell V → Cell V
 
 -- a wire that just has a whole number; its state is 0
 abbrev pub plain : {V : Type 0} → Meaning V → ℤ → Cell V

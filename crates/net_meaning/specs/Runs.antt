@@ -4,39 +4,38 @@ use Rattle.std.specs.Prelude.{◌≡◌, ℕ, zero, suc, ◌<◌, ℤ, pos, List
 use Rattle.fx_fraction.specs.Fraction.{Fraction}
 use Rattle.net_model.specs.declared.wires.Item.{Item}
 use Rattle.net_model.specs.declared.wires.Item.TheVariants.{Input, Const, Block as OfBlock}
-use Rattle.net_model.specs.declared.wires.Wire.{Wire}
-use Rattle.net_model.specs.Wires.{wire_at, input_place, inputs_of}
+use Rattle.net_model.specs.Wires.{NetData, wire_at, input_place, inputs_of}
 use Rattle.net_meaning.specs.Cells.{Cell, Meaning, plain, cell_at, cells_from, wire_values, values_read}
 use Rattle.net_meaning.specs.Blocks.{machine, exact}
 
 -- what wire i is said to hold at the newest of the rows, where `cells ago w` is what wire w holds so many rows ago: an
 -- input the row's value, a constant its value, a block what its meaning makes of what it reads
-unfoldable pub equation_of : {V : Type 0} → Meaning V → List Wire → List (List ℤ) → (ℕ → ℕ → Cell V) → ℕ → Item → Cell V
-equation_of M wires rows cells i (Input lo hi) = plain M (get_or (get_or rows 0 []) (input_place wires i) (pos 0))
-equation_of M wires rows cells i (Const value) = plain M value
-equation_of M wires rows cells i (OfBlock b) =
-    M.of_block wires (wire_at wires i).kind b (values_read b (wire_values cells)) (cells 1 i)
+unfoldable pub equation_of : {V : Type 0} → Meaning V → NetData → List (List ℤ) → (ℕ → ℕ → Cell V) → ℕ → Item → Cell V
+equation_of M net rows cells i (Input lo hi) = plain M (get_or (get_or rows 0 []) (input_place net.wires i) (pos 0))
+equation_of M net rows cells i (Const value) = plain M value
+equation_of M net rows cells i (OfBlock b) =
+    M.of_block net (wire_at net.wires i).kind b (values_read b (wire_values cells)) (cells 1 i)
 
 -- what wire i is said to hold by the item that it has
-abbrev pub equation : {V : Type 0} → Meaning V → List Wire → List (List ℤ) → (ℕ → ℕ → Cell V) → ℕ → Cell V
-equation M wires rows cells i = equation_of M wires rows cells i (wire_at wires i).item
+abbrev pub equation : {V : Type 0} → Meaning V → NetData → List (List ℤ) → (ℕ → ℕ → Cell V) → ℕ → Cell V
+equation M net rows cells i = equation_of M net rows cells i (wire_at net.wires i).item
 
 -- each row has one value for each input
-abbrev pub HasAllInputs : List Wire → List (List ℤ) → Type 0
-HasAllInputs wires rows = (j : ℕ) → j < length rows → length (get_or rows j []) ≡ length (inputs_of wires)
+abbrev pub HasAllInputs : NetData → List (List ℤ) → Type 0
+HasAllInputs net rows = (j : ℕ) → j < length rows → length (get_or rows j []) ≡ length (inputs_of net.wires)
 
 -- a table is a run of the wires over the rows
-pub record IsRun {V : Type 0} (M : Meaning V) (wires : List Wire) (rows : List (List ℤ)) (table : List (List (Cell V)))
+pub record IsRun {V : Type 0} (M : Meaning V) (net : NetData) (rows : List (List ℤ)) (table : List (List (Cell V)))
     : Type 0 where
   -- each row has one value for each input
-  pub inputs : HasAllInputs wires rows
+  pub inputs : HasAllInputs net rows
   -- the table has as many rows
   pub long : length table ≡ length rows
   -- each of them has a cell for each wire
-  pub wide : (j : ℕ) → j < length rows → length (get_or table j []) ≡ length wires
+  pub wide : (j : ℕ) → j < length rows → length (get_or table j []) ≡ length net.wires
   -- each cell meets its equation
-  pub meets : (j i : ℕ) → j < length rows → i < length wires →
-      cell_at M table j i ≡ equation M wires (drop j rows) (cells_from M table j) i
+  pub meets : (j i : ℕ) → j < length rows → i < length net.wires →
+      cell_at M table j i ≡ equation M net (drop j rows) (cells_from M table j) i
 
 -- what a network's wires hold over rows: in the machine, and in exact fractions
 pub record Tables : Type 0 where
@@ -44,17 +43,17 @@ pub record Tables : Type 0 where
   pub exactly : List (List (Cell Fraction))
 
 -- these tables are the network's two runs over the rows
-pub record AreRuns (wires : List Wire) (rows : List (List ℤ)) (tables : Tables) : Type 0 where
-  pub in_machine : IsRun machine wires rows tables.in_machine
-  pub exactly : IsRun exact wires rows tables.exactly
+pub record AreRuns (net : NetData) (rows : List (List ℤ)) (tables : Tables) : Type 0 where
+  pub in_machine : IsRun machine net rows tables.in_machine
+  pub exactly : IsRun exact net rows tables.exactly
 
 -- the cells of the first n wires at the newest row, above the table of the rows before
-unfoldable pub row_of : {V : Type 0} → Meaning V → List Wire → List (List ℤ) → List (List (Cell V)) → ℕ → List (Cell V)
-row_of M wires rows past zero = []
-row_of M wires rows past (suc n) =
-    row_of M wires rows past n ++ equation M wires rows (cell_at M (row_of M wires rows past n ∷ past)) n ∷ []
+unfoldable pub row_of : {V : Type 0} → Meaning V → NetData → List (List ℤ) → List (List (Cell V)) → ℕ → List (Cell V)
+row_of M net rows past zero = []
+row_of M net rows past (suc n) =
+    row_of M net rows past n ++ equation M net rows (cell_at M (row_of M net rows past n ∷ past)) n ∷ []
 
 -- the table of all cells, computed row by row and wire by wire
-unfoldable pub table : {V : Type 0} → Meaning V → List Wire → List (List ℤ) → List (List (Cell V))
-table M wires [] = []
-table M wires (row ∷ rows) = row_of M wires (row ∷ rows) (table M wires rows) (length wires) ∷ table M wires rows
+unfoldable pub table : {V : Type 0} → Meaning V → NetData → List (List ℤ) → List (List (Cell V))
+table M net [] = []
+table M net (row ∷ rows) = row_of M net (row ∷ rows) (table M net rows) (length net.wires) ∷ table M net rows

@@ -55,14 +55,14 @@ regroup_tests a false b c d k r m h = absurd (true≢false (sym h))
 regroup_tests false true b c d k r m h = refl
 
 -- the wire is good in its place, and there is room for it
-good_place : List Wire → ℕ → Wire → Bool
-good_place wires i w = is_good_wire wires i w && nat_lt i 512
+good_place : NetData → ℕ → Wire → Bool
+good_place net i w = is_good_wire net i w && nat_lt i 512
 
-wire_passes : (wires : List Wire) (i : ℕ) (w : Wire) → is_name w.name ≡ true → is_ok (wire_tested wires i w) ≡ (not (list_any (same_name w) (take i wires)) && good_place wires i w)
+wire_passes : (net : NetData) (i : ℕ) (w : Wire) → is_name w.name ≡ true → is_ok (wire_tested net i w) ≡ (not (list_any (same_name w) (take i net.wires)) && good_place net i w)
 unfolding wire_tested six_tests same_name good_place
-wire_passes wires i w named =
-    six_tests_pass (not (has_name (take i wires) w.name)) (is_built_item w.item) (item_reads_earlier i w.item) (item_agrees wires w.kind w.item) (is_good_kind w.kind && item_in_range w.kind w.item) (nat_lt i 512)
-    ∙ regroup_tests (not (has_name (take i wires) w.name)) (is_name w.name) (is_built_item w.item) (item_reads_earlier i w.item) (item_agrees wires w.kind w.item) (is_good_kind w.kind) (item_in_range w.kind w.item) (nat_lt i 512) named
+wire_passes net i w named =
+    six_tests_pass (not (has_name (take i net.wires) w.name)) (is_built_item w.item) (item_reads_earlier i w.item) (item_agrees net w.kind w.item) (is_good_kind w.kind && item_in_range w.kind w.item) (nat_lt i 512)
+    ∙ regroup_tests (not (has_name (take i net.wires) w.name)) (is_name w.name) (is_built_item w.item) (item_reads_earlier i w.item) (item_agrees net w.kind w.item) (is_good_kind w.kind) (item_in_range w.kind w.item) (nat_lt i 512) named
 
 -- ---- all wires
 
@@ -81,19 +81,19 @@ name_at (w ∷ wires) (suc i) h lt = let shorter : i < length wires = omega arit
 left_at : (wires : List Wire) (i : ℕ) → i < length wires → drop i wires ≡ get_or wires i no_wire ∷ drop (i + 1) wires
 left_at wires i lt = drop-cons wires i no_wire lt ∙ ap (λ k. get_or wires i no_wire ∷ drop k wires) (sym (add-one i))
 
-wires_pass : (all : List Wire) (k i : ℕ) → i + k ≡ length all → are_named all ≡ true → is_ok (wires_tested all i (drop i all)) ≡ remains same_name (good_place all) all i
+wires_pass : (net : NetData) (k i : ℕ) → i + k ≡ length net.wires → are_named net.wires ≡ true → is_ok (wires_tested net i (drop i net.wires)) ≡ remains same_name (good_place net) net.wires i
 unfolding wires_tested
-wires_pass all zero i e named =
-    let past : length all ≤ i = omega arith in
-    ap (λ rest. is_ok (wires_tested all i rest)) (drop_of_length-le all past) ∙ sym (remains-end same_name (good_place all) all i past)
-wires_pass all (suc k) i e named =
-    let lt : i < length all = omega arith in
-    let next : (i + 1) + k ≡ length all = omega arith in
-    let here : Wire = get_or all i no_wire in
-    ap (λ rest. is_ok (wires_tested all i rest)) (left_at all i lt)
-    ∙ at_wire_passes i (wire_tested all i here) (wires_tested all (i + 1) (drop (i + 1) all))
-    ∙ ap₂ (λ t u. t && u) (wire_passes all i here (name_at all i named lt)) (wires_pass all k (i + 1) next named)
-    ∙ sym (remains-step same_name (good_place all) no_wire all i lt)
+wires_pass net zero i e named =
+    let past : length net.wires ≤ i = omega arith in
+    ap (λ rest. is_ok (wires_tested net i rest)) (drop_of_length-le net.wires past) ∙ sym (remains-end same_name (good_place net) net.wires i past)
+wires_pass net (suc k) i e named =
+    let lt : i < length net.wires = omega arith in
+    let next : (i + 1) + k ≡ length net.wires = omega arith in
+    let here : Wire = get_or net.wires i no_wire in
+    ap (λ rest. is_ok (wires_tested net i rest)) (left_at net.wires i lt)
+    ∙ at_wire_passes i (wire_tested net i here) (wires_tested net (i + 1) (drop (i + 1) net.wires))
+    ∙ ap₂ (λ t u. t && u) (wire_passes net i here (name_at net.wires i named lt)) (wires_pass net k (i + 1) next named)
+    ∙ sym (remains-step same_name (good_place net) no_wire net.wires i lt)
 
 -- the wires are good where they are in their places and there is room for all
 regroup_room : (g r b t : Bool) → ((g && r) && (b && t)) ≡ ((g && b) && (r && t))
@@ -118,25 +118,25 @@ shut_last true = refl
 shut_last false = refl
 
 -- what holds of the wires from place i on
-abbrev GoodFrom : List Wire → ℕ → List Wire → Type 0
-GoodFrom all i rest = good_from (good_place all) i rest ≡ (are_good_from all i rest && nat_le (i + length rest) 512)
+abbrev GoodFrom : NetData → ℕ → List Wire → Type 0
+GoodFrom net i rest = good_from (good_place net) i rest ≡ (are_good_from net i rest && nat_le (i + length rest) 512)
 
-good_by_test : (all : List Wire) (i : ℕ) (w : Wire) (rest : List Wire) → (i + 1 ≤ 512 → GoodFrom all (i + 1) rest) → (b : Bool) → nat_lt i 512 ≡ b → GoodFrom all i (w ∷ rest)
+good_by_test : (net : NetData) (i : ℕ) (w : Wire) (rest : List Wire) → (i + 1 ≤ 512 → GoodFrom net (i + 1) rest) → (b : Bool) → nat_lt i 512 ≡ b → GoodFrom net i (w ∷ rest)
 unfolding good_from good_place
-good_by_test all i w rest later true e =
+good_by_test net i w rest later true e =
     let moved : i + 1 + length rest ≡ i + suc (length rest) = omega arith in
-    ap₂ (λ r t. (is_good_wire all i w && r) && t) e (later (next_by_test i e))
-    ∙ regroup_room (is_good_wire all i w) true (are_good_from all (i + 1) rest) (nat_le (i + 1 + length rest) 512)
-    ∙ ap (λ n. (is_good_wire all i w && are_good_from all (i + 1) rest) && nat_le n 512) moved
-good_by_test all i w rest later false e =
-    ap (λ r. (is_good_wire all i w && r) && good_from (good_place all) (i + 1) rest) e
-    ∙ shut (is_good_wire all i w) (good_from (good_place all) (i + 1) rest)
-    ∙ sym (ap (λ t. (is_good_wire all i w && are_good_from all (i + 1) rest) && t) (lt-leb (i + suc (length rest)) 512 (past_by_test i (length rest) e)) ∙ shut_last (is_good_wire all i w && are_good_from all (i + 1) rest))
+    ap₂ (λ r t. (is_good_wire net i w && r) && t) e (later (next_by_test i e))
+    ∙ regroup_room (is_good_wire net i w) true (are_good_from net (i + 1) rest) (nat_le (i + 1 + length rest) 512)
+    ∙ ap (λ n. (is_good_wire net i w && are_good_from net (i + 1) rest) && nat_le n 512) moved
+good_by_test net i w rest later false e =
+    ap (λ r. (is_good_wire net i w && r) && good_from (good_place net) (i + 1) rest) e
+    ∙ shut (is_good_wire net i w) (good_from (good_place net) (i + 1) rest)
+    ∙ sym (ap (λ t. (is_good_wire net i w && are_good_from net (i + 1) rest) && t) (lt-leb (i + suc (length rest)) 512 (past_by_test i (length rest) e)) ∙ shut_last (is_good_wire net i w && are_good_from net (i + 1) rest))
 
-good_wires : (all : List Wire) (i : ℕ) (rest : List Wire) → i ≤ 512 → GoodFrom all i rest
+good_wires : (net : NetData) (i : ℕ) (rest : List Wire) → i ≤ 512 → GoodFrom net i rest
 unfolding good_from
-good_wires all i [] h = let few : i + 0 ≤ 512 = omega arith in sym (le-leb (i + 0) 512 few)
-good_wires all i (w ∷ rest) h = good_by_test all i w rest (good_wires all (i + 1) rest) (nat_lt i 512) refl
+good_wires net i [] h = let few : i + 0 ≤ 512 = omega arith in sym (le-leb (i + 0) 512 few)
+good_wires net i (w ∷ rest) h = good_by_test net i w rest (good_wires net (i + 1) rest) (nat_lt i 512) refl
 
 -- ---- the names
 
@@ -150,12 +150,12 @@ distinct-names [] = refl
 distinct-names (w ∷ wires) = ap₂ (λ t u. not t && u) (sym (list_any-names w.name wires)) (distinct-names wires)
 
 -- the tests of all wires are those of their names, of each wire in its place, and of their number
-wires_decide : (wires : List Wire) → are_named wires ≡ true → is_ok (wires_tested wires 0 wires) ≡ (are_distinct (map (λ w. w.name) wires) && (are_good_from wires 0 wires && nat_le (length wires) 512))
-wires_decide wires named =
-    let all : 0 + length wires ≡ length wires = omega arith in
-    wires_pass wires (length wires) 0 all named
-    ∙ remains-zero same_name (good_place wires) same_name_comm wires
-    ∙ ap₂ (λ t u. t && u) (distinct-names wires) (good_wires wires 0 wires (omega arith) ∙ ap (λ n. are_good_from wires 0 wires && nat_le n 512) all)
+wires_decide : (net : NetData) → are_named net.wires ≡ true → is_ok (wires_tested net 0 net.wires) ≡ (are_distinct (map (λ w. w.name) net.wires) && (are_good_from net 0 net.wires && nat_le (length net.wires) 512))
+wires_decide net named =
+    let all : 0 + length net.wires ≡ length net.wires = omega arith in
+    wires_pass net (length net.wires) 0 all named
+    ∙ remains-zero same_name (good_place net) same_name_comm net.wires
+    ∙ ap₂ (λ t u. t && u) (distinct-names net.wires) (good_wires net 0 net.wires (omega arith) ∙ ap (λ n. are_good_from net 0 net.wires && nat_le n 512) all)
 
 -- ---- the outputs
 
@@ -212,9 +212,9 @@ regroup_all false false g o n e = refl
 tested_decides : (net : NetData) → are_named net.wires ≡ true → is_ok (tested net) ≡ is_valid net
 unfolding tested ends_tested is_valid
 tested_decides net named =
-    behind_wires (length net.wires) (wires_tested net.wires 0 net.wires) (ends_tested net)
-    ∙ ap₂ (λ t u. t && u) (wires_decide net.wires named) (behind_outs (has_ends net.wires net.outs) (outs_tested (length net.wires) [] net.outs) ∙ ap (λ t. t && has_ends net.wires net.outs) (outs_decide (length net.wires) net.outs))
-    ∙ regroup_all (nat_le (length net.wires) 512) (are_distinct (map (λ w. w.name) net.wires)) (are_good_from net.wires 0 net.wires) (are_below (length net.wires) net.outs) (are_distinct_outs net.outs) (has_ends net.wires net.outs)
+    behind_wires (length net.wires) (wires_tested net 0 net.wires) (ends_tested net)
+    ∙ ap₂ (λ t u. t && u) (wires_decide net named) (behind_outs (has_ends net.wires net.outs) (outs_tested (length net.wires) [] net.outs) ∙ ap (λ t. t && has_ends net.wires net.outs) (outs_decide (length net.wires) net.outs))
+    ∙ regroup_all (nat_le (length net.wires) 512) (are_distinct (map (λ w. w.name) net.wires)) (are_good_from net 0 net.wires) (are_below (length net.wires) net.outs) (are_distinct_outs net.outs) (has_ends net.wires net.outs)
 
 -- a draft that passes its tests is valid
 pub valid_if_tested : (net : NetData) → are_named net.wires ≡ true → tested net ≡ Ok tt → IsValid net
@@ -225,14 +225,14 @@ passed : {E : Type 0} (r : Result (Unit {0}) E) → is_ok r ≡ true → r ≡ O
 passed (Ok u) h = refl
 passed (Err e) h = absurd (true≢false (sym h))
 
-named_from : (all : List Wire) (i : ℕ) (wires : List Wire) → are_good_from all i wires ≡ true → are_named wires ≡ true
-named_from all i [] h = refl
-named_from all i (w ∷ wires) h =
+named_from : (net : NetData) (i : ℕ) (wires : List Wire) → are_good_from net i wires ≡ true → are_named wires ≡ true
+named_from net i [] h = refl
+named_from net i (w ∷ wires) h =
     let p = and_parts _ _ h in
-    and_from (is_name w.name) (are_named wires) (name_of_good all i w p.0) (named_from all (i + 1) wires p.1)
+    and_from (is_name w.name) (are_named wires) (name_of_good net i w p.0) (named_from net (i + 1) wires p.1)
 
 pub tested_if_valid : (net : NetData) → IsValid net → tested net ≡ Ok tt
-tested_if_valid net valid = passed (tested net) (tested_decides net (named_from net.wires 0 net.wires (conditions net valid).good) ∙ valid)
+tested_if_valid net valid = passed (tested net) (tested_decides net (named_from net 0 net.wires (conditions net valid).good) ∙ valid)
 
 pub tests_decide : TestsDecideValidity
 tests_decide net named = (valid_if_tested net named, tested_if_valid net)

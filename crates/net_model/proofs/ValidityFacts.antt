@@ -35,7 +35,7 @@ use Rattle.net_model.specs.Validity.{is_good_kind, kind_holds, is_number_of, typ
 pub record Conditions (net : NetData) : Type 0 where
   pub few : nat_le (length net.wires) 512 ≡ true
   pub distinct : are_distinct (map (λ w. w.name) net.wires) ≡ true
-  pub good : are_good_from net.wires 0 net.wires ≡ true
+  pub good : are_good_from net 0 net.wires ≡ true
   pub outs_there : list_all (λ o. nat_lt o.0 (length net.wires)) net.outs ≡ true
   pub outs_distinct : are_distinct_outs net.outs ≡ true
   pub has_input : list_any (λ w. is_input w.item) net.wires ≡ true
@@ -58,33 +58,33 @@ conditions net h =
     let ends = and_parts (list_any (λ w. is_input w.item) net.wires) (nat_lt 0 (length net.outs)) p.5 in
     record { few = p.0; distinct = p.1; good = p.2; outs_there = p.3; outs_distinct = p.4; has_input = ends.0; has_output = ends.1 }
 
--- a valid network has at most 512 wires
+-- a valid network has at most 512 net
 pub length-valid : (net : NetData) → IsValid net → length net.wires ≤ 512
 length-valid net h = leb-true _ _ (conditions net h).few
 
 -- each wire is good in its place
-good_from : (wires rest : List Wire) (i k : ℕ) → are_good_from wires i rest ≡ true → k < length rest → is_good_wire wires (i + k) (get_or rest k no_wire) ≡ true
-good_from wires [] i k h lt = absurd (omega arith)
-good_from wires (w ∷ rest) i zero h lt = let e : i + 0 ≡ i = omega arith in rw e ((and_parts _ _ h).0)
-good_from wires (w ∷ rest) i (suc k) h lt =
+good_from : (net : NetData) (rest : List Wire) (i k : ℕ) → are_good_from net i rest ≡ true → k < length rest → is_good_wire net (i + k) (get_or rest k no_wire) ≡ true
+good_from net [] i k h lt = absurd (omega arith)
+good_from net (w ∷ rest) i zero h lt = let e : i + 0 ≡ i = omega arith in rw e ((and_parts _ _ h).0)
+good_from net (w ∷ rest) i (suc k) h lt =
     let e : i + suc k ≡ (i + 1) + k = omega arith in
     let shorter : k < length rest = omega arith in
-    rw e (good_from wires rest (i + 1) k ((and_parts _ _ h).1) shorter)
+    rw e (good_from net rest (i + 1) k ((and_parts _ _ h).1) shorter)
 
-pub good_wire-valid : (net : NetData) (i : ℕ) → IsValid net → i < length net.wires → is_good_wire net.wires i (wire_at net.wires i) ≡ true
-good_wire-valid net i h lt = let e : 0 + i ≡ i = omega arith in rw e at (good_from net.wires net.wires 0 i ((conditions net h).good) lt)
+pub good_wire-valid : (net : NetData) (i : ℕ) → IsValid net → i < length net.wires → is_good_wire net i (wire_at net.wires i) ≡ true
+good_wire-valid net i h lt = let e : 0 + i ≡ i = omega arith in rw e at (good_from net net.wires 0 i ((conditions net h).good) lt)
 
 -- a good wire, test by test
-pub record IsGoodWire (wires : List Wire) (i : ℕ) (name : List ℕ) (kind : Kind) (item : Item) : Type 0 where
+pub record IsGoodWire (net : NetData) (i : ℕ) (name : List ℕ) (kind : Kind) (item : Item) : Type 0 where
   pub named : is_name name ≡ true
   pub built : is_built_item item ≡ true
   pub earlier : item_reads_earlier i item ≡ true
-  pub agreed : item_agrees wires kind item ≡ true
+  pub agreed : item_agrees net kind item ≡ true
   pub good_kind : is_good_kind kind ≡ true
   pub in_range : item_in_range kind item ≡ true
 
-good_wire : (wires : List Wire) (i : ℕ) (w : Wire) → is_good_wire wires i w ≡ true → IsGoodWire wires i w.name w.kind w.item
-good_wire wires i w h =
+good_wire : (net : NetData) (i : ℕ) (w : Wire) → is_good_wire net i w ≡ true → IsGoodWire net i w.name w.kind w.item
+good_wire net i w h =
     let h1 = and_parts _ _ h in
     let h2 = and_parts _ _ h1.0 in
     let h3 = and_parts _ _ h2.0 in
@@ -92,13 +92,13 @@ good_wire wires i w h =
     let h5 = and_parts _ _ h4.0 in
     record { named = h5.0; built = h5.1; earlier = h4.1; agreed = h3.1; good_kind = h2.1; in_range = h1.1 }
 
-pub name_of_good : (wires : List Wire) (i : ℕ) (w : Wire) → is_good_wire wires i w ≡ true → is_name w.name ≡ true
-name_of_good wires i w h = (good_wire wires i w h).named
+pub name_of_good : (net : NetData) (i : ℕ) (w : Wire) → is_good_wire net i w ≡ true → is_name w.name ≡ true
+name_of_good net i w h = (good_wire net i w h).named
 
 -- what is known of a wire whose item is known
-pub good_item-valid : (net : NetData) (i : ℕ) (item : Item) → IsValid net → i < length net.wires → (wire_at net.wires i).item ≡ item → IsGoodWire net.wires i (wire_at net.wires i).name (wire_at net.wires i).kind item
+pub good_item-valid : (net : NetData) (i : ℕ) (item : Item) → IsValid net → i < length net.wires → (wire_at net.wires i).item ≡ item → IsGoodWire net i (wire_at net.wires i).name (wire_at net.wires i).kind item
 good_item-valid net i item h lt e =
-    subst (λ (t : Item). IsGoodWire net.wires i (wire_at net.wires i).name (wire_at net.wires i).kind t) e (good_wire net.wires i (wire_at net.wires i) (good_wire-valid net i h lt))
+    subst (λ (t : Item). IsGoodWire net i (wire_at net.wires i).name (wire_at net.wires i).kind t) e (good_wire net i (wire_at net.wires i) (good_wire-valid net i h lt))
 
 -- binary points are at most 15
 point_of-good : (kind : Kind) → is_good_kind kind ≡ true → point_of kind ≤ 15
@@ -107,7 +107,7 @@ point_of-good Truth h = omega arith
 
 pub point_of-valid : (net : NetData) (i : ℕ) → IsValid net → i < length net.wires → point_of (wire_at net.wires i).kind ≤ 15
 point_of-valid net i h lt =
-    point_of-good (wire_at net.wires i).kind (good_wire net.wires i (wire_at net.wires i) (good_wire-valid net i h lt)).good_kind
+    point_of-good (wire_at net.wires i).kind (good_wire net i (wire_at net.wires i) (good_wire-valid net i h lt)).good_kind
 
 -- a test of two whole numbers
 le_from_test : (a b : ℤ) → int_le a b ≡ true → a ≤ℤ b
@@ -145,45 +145,45 @@ number_kind ty (Num t point) h = (point, ap (λ u. Num u point) (sym (same_true 
 number_kind ty Truth h = absurd (true≢false (sym h))
 
 -- an argument is an earlier wire of its type
-pub record IsArgument (wires : List Wire) (i : ℕ) (ty : Ty) (a : WireNo) : Type 0 where
+pub record IsArgument (net : NetData) (i : ℕ) (ty : Ty) (a : WireNo) : Type 0 where
   pub earlier : a.0 < i
-  pub number : is_number_of ty (wire_at wires a.0).kind ≡ true
+  pub number : is_number_of ty (wire_at net.wires a.0).kind ≡ true
 
 -- an argument is of its type; one that the routine doesn't have repeats the first
-abbrev pub IsGoodArgument : List Wire → ℕ → WireNo → Option Ty → WireNo → Type 0
-IsGoodArgument wires i first (Some ty) a = IsArgument wires i ty a
-IsGoodArgument wires i first None a = a.0 ≡ first.0
+abbrev pub IsGoodArgument : NetData → ℕ → WireNo → Option Ty → WireNo → Type 0
+IsGoodArgument net i first (Some ty) a = IsArgument net i ty a
+IsGoodArgument net i first None a = a.0 ≡ first.0
 
-good_argument : (wires : List Wire) (i : ℕ) (first : WireNo) (ty : Option Ty) (a : WireNo) → is_earlier i ty a.0 ≡ true → argument_agrees wires first.0 ty a.0 ≡ true → IsGoodArgument wires i first ty a
-good_argument wires i first (Some ty) a e h = record { earlier = ltb-true _ _ e; number = h }
-good_argument wires i first None a e h = eqb-true _ _ h
+good_argument : (net : NetData) (i : ℕ) (first : WireNo) (ty : Option Ty) (a : WireNo) → is_earlier i ty a.0 ≡ true → argument_agrees net first.0 ty a.0 ≡ true → IsGoodArgument net i first ty a
+good_argument net i first (Some ty) a e h = record { earlier = ltb-true _ _ e; number = h }
+good_argument net i first None a e h = eqb-true _ _ h
 
 -- each routine has a first argument, which is an earlier wire
-first_earlier : (wires : List Wire) (i : ℕ) (op : ArithOp) (v : Variant) (x : WireNo) → IsGoodArgument wires i x (slice_get (argument_types op v) 0) x → x.0 < i
-first_earlier wires i MulDiv v x g = g.earlier
-first_earlier wires i Abs v x g = g.earlier
-first_earlier wires i Limit v x g = g.earlier
-first_earlier wires i Min v x g = g.earlier
-first_earlier wires i Max v x g = g.earlier
-first_earlier wires i RateLimiter v x g = g.earlier
-first_earlier wires i other v x g = g.earlier
+first_earlier : (net : NetData) (i : ℕ) (op : ArithOp) (v : Variant) (x : WireNo) → IsGoodArgument net i x (slice_get (argument_types op v) 0) x → x.0 < i
+first_earlier net i MulDiv v x g = g.earlier
+first_earlier net i Abs v x g = g.earlier
+first_earlier net i Limit v x g = g.earlier
+first_earlier net i Min v x g = g.earlier
+first_earlier net i Max v x g = g.earlier
+first_earlier net i RateLimiter v x g = g.earlier
+first_earlier net i other v x g = g.earlier
 
 -- and so is what repeats it
 below_along : (a b i : ℕ) → a ≡ b → b < i → a < i
 below_along a b i e h = omega arith
 
-argument_earlier : (wires : List Wire) (i : ℕ) (first : WireNo) (ty : Option Ty) (a : WireNo) → first.0 < i → IsGoodArgument wires i first ty a → a.0 < i
-argument_earlier wires i first (Some ty) a h g = g.earlier
-argument_earlier wires i first None a h g = below_along _ _ _ g h
+argument_earlier : (net : NetData) (i : ℕ) (first : WireNo) (ty : Option Ty) (a : WireNo) → first.0 < i → IsGoodArgument net i first ty a → a.0 < i
+argument_earlier net i first (Some ty) a h g = g.earlier
+argument_earlier net i first None a h g = below_along _ _ _ g h
 
--- a block of Mfx arithmetic: its operation is built and takes its types, its arguments are good and earlier wires, and
+-- a block of Mfx arithmetic: its operation is built and takes its types, its arguments are good and earlier net, and
 -- its count of places is one of the operation
-pub record IsGoodArith (wires : List Wire) (i : ℕ) (kind : Kind) (op : ArithOp) (v : Variant) (x y z : WireNo) (sh : ℕ) : Type 0 where
+pub record IsGoodArith (net : NetData) (i : ℕ) (kind : Kind) (op : ArithOp) (v : Variant) (x y z : WireNo) (sh : ℕ) : Type 0 where
   pub built : is_built op ≡ true
   pub taken : Takes op v
-  pub first : IsGoodArgument wires i x (slice_get (argument_types op v) 0) x
-  pub second : IsGoodArgument wires i x (slice_get (argument_types op v) 1) y
-  pub third : IsGoodArgument wires i x (slice_get (argument_types op v) 2) z
+  pub first : IsGoodArgument net i x (slice_get (argument_types op v) 0) x
+  pub second : IsGoodArgument net i x (slice_get (argument_types op v) 1) y
+  pub third : IsGoodArgument net i x (slice_get (argument_types op v) 2) z
   pub earlier_x : x.0 < i
   pub earlier_y : y.0 < i
   pub earlier_z : z.0 < i
@@ -191,29 +191,29 @@ pub record IsGoodArith (wires : List Wire) (i : ℕ) (kind : Kind) (op : ArithOp
   pub output : is_number_of v.o kind ≡ true
 
 -- what the tests say of three arguments
-record AreGoodArguments (wires : List Wire) (i : ℕ) (b : Block) (x y z : WireNo) : Type 0 where
-  pub first : IsGoodArgument wires i x (type_read b 0) x
-  pub second : IsGoodArgument wires i x (type_read b 1) y
-  pub third : IsGoodArgument wires i x (type_read b 2) z
+record AreGoodArguments (net : NetData) (i : ℕ) (b : Block) (x y z : WireNo) : Type 0 where
+  pub first : IsGoodArgument net i x (type_read b 0) x
+  pub second : IsGoodArgument net i x (type_read b 1) y
+  pub third : IsGoodArgument net i x (type_read b 2) z
 
-three_arguments : (wires : List Wire) (i : ℕ) (b : Block) (x y z : WireNo) → argument_of b 0 ≡ x.0 → argument_of b 1 ≡ y.0 → argument_of b 2 ≡ z.0 → reads_earlier i b ≡ true → arguments_agree wires b ≡ true → AreGoodArguments wires i b x y z
-three_arguments wires i b x y z ex ey ez early fit =
+three_arguments : (net : NetData) (i : ℕ) (b : Block) (x y z : WireNo) → argument_of b 0 ≡ x.0 → argument_of b 1 ≡ y.0 → argument_of b 2 ≡ z.0 → reads_earlier i b ≡ true → arguments_agree net b ≡ true → AreGoodArguments net i b x y z
+three_arguments net i b x y z ex ey ez early fit =
     let e1 = and_parts _ _ early in
     let e2 = and_parts _ _ e1.0 in
     let f1 = and_parts _ _ fit in
     let f2 = and_parts _ _ f1.0 in
     record {
-      first = good_argument wires i x (type_read b 0) x (subst (λ (a : ℕ). is_earlier i (type_read b 0) a ≡ true) ex e2.0) (subst (λ (a : ℕ). argument_agrees wires a (type_read b 0) a ≡ true) ex f2.0);
-      second = good_argument wires i x (type_read b 1) y (subst (λ (a : ℕ). is_earlier i (type_read b 1) a ≡ true) ey e2.1) (subst (λ (a : ℕ). argument_agrees wires x.0 (type_read b 1) a ≡ true) ey (subst (λ (a : ℕ). argument_agrees wires a (type_read b 1) (argument_of b 1) ≡ true) ex f2.1));
-      third = good_argument wires i x (type_read b 2) z (subst (λ (a : ℕ). is_earlier i (type_read b 2) a ≡ true) ez e1.1) (subst (λ (a : ℕ). argument_agrees wires x.0 (type_read b 2) a ≡ true) ez (subst (λ (a : ℕ). argument_agrees wires a (type_read b 2) (argument_of b 2) ≡ true) ex f1.1));
+      first = good_argument net i x (type_read b 0) x (subst (λ (a : ℕ). is_earlier i (type_read b 0) a ≡ true) ex e2.0) (subst (λ (a : ℕ). argument_agrees net a (type_read b 0) a ≡ true) ex f2.0);
+      second = good_argument net i x (type_read b 1) y (subst (λ (a : ℕ). is_earlier i (type_read b 1) a ≡ true) ey e2.1) (subst (λ (a : ℕ). argument_agrees net x.0 (type_read b 1) a ≡ true) ey (subst (λ (a : ℕ). argument_agrees net a (type_read b 1) (argument_of b 1) ≡ true) ex f2.1));
+      third = good_argument net i x (type_read b 2) z (subst (λ (a : ℕ). is_earlier i (type_read b 2) a ≡ true) ez e1.1) (subst (λ (a : ℕ). argument_agrees net x.0 (type_read b 2) a ≡ true) ez (subst (λ (a : ℕ). argument_agrees net a (type_read b 2) (argument_of b 2) ≡ true) ex f1.1));
     }
 
-good_arith : (wires : List Wire) (i : ℕ) (name : List ℕ) (kind : Kind) (op : ArithOp) (v : Variant) (x y z : WireNo) (sh : ℕ) → IsGoodWire wires i name kind (OfBlock (Arith op v x y z sh)) → IsGoodArith wires i kind op v x y z sh
-good_arith wires i name kind op v x y z sh h =
+good_arith : (net : NetData) (i : ℕ) (name : List ℕ) (kind : Kind) (op : ArithOp) (v : Variant) (x y z : WireNo) (sh : ℕ) → IsGoodWire net i name kind (OfBlock (Arith op v x y z sh)) → IsGoodArith net i kind op v x y z sh
+good_arith net i name kind op v x y z sh h =
     let a1 = and_parts _ _ h.agreed in
     let a2 = and_parts _ _ a1.0 in
-    let args = three_arguments wires i (Arith op v x y z sh) x y z refl refl refl h.earlier a2.1 in
-    let x_below = first_earlier wires i op v x args.first in
+    let args = three_arguments net i (Arith op v x y z sh) x y z refl refl refl h.earlier a2.1 in
+    let x_below = first_earlier net i op v x args.first in
     record {
       built = h.built;
       taken = (taken op v).0 a2.0;
@@ -227,28 +227,28 @@ good_arith wires i name kind op v x y z sh h =
       output = a1.1;
     }
 
-pub arith-valid : (net : NetData) (i : ℕ) (op : ArithOp) (v : Variant) (x y z : WireNo) (sh : ℕ) → IsValid net → i < length net.wires → (wire_at net.wires i).item ≡ OfBlock (Arith op v x y z sh) → IsGoodArith net.wires i (wire_at net.wires i).kind op v x y z sh
+pub arith-valid : (net : NetData) (i : ℕ) (op : ArithOp) (v : Variant) (x y z : WireNo) (sh : ℕ) → IsValid net → i < length net.wires → (wire_at net.wires i).item ≡ OfBlock (Arith op v x y z sh) → IsGoodArith net i (wire_at net.wires i).kind op v x y z sh
 arith-valid net i op v x y z sh h lt e = good_arith _ _ _ _ op _ _ _ _ _ (good_item-valid net i (OfBlock (Arith op v x y z sh)) h lt e)
 
 -- a block with binary points, likewise
-pub record IsGoodScaled (wires : List Wire) (i : ℕ) (kind : Kind) (op : ScaledOp) (v : Variant) (x y : WireNo) : Type 0 where
-  pub first : IsGoodArgument wires i x (slice_get (scaled_types op v) 0) x
-  pub second : IsGoodArgument wires i x (slice_get (scaled_types op v) 1) y
+pub record IsGoodScaled (net : NetData) (i : ℕ) (kind : Kind) (op : ScaledOp) (v : Variant) (x y : WireNo) : Type 0 where
+  pub first : IsGoodArgument net i x (slice_get (scaled_types op v) 0) x
+  pub second : IsGoodArgument net i x (slice_get (scaled_types op v) 1) y
   pub earlier_x : x.0 < i
   pub earlier_y : y.0 < i
   pub output : is_number_of v.o kind ≡ true
 
 -- each form has a first argument
-first_scaled_earlier : (wires : List Wire) (i : ℕ) (op : ScaledOp) (v : Variant) (x : WireNo) → IsGoodArgument wires i x (slice_get (scaled_types op v) 0) x → x.0 < i
-first_scaled_earlier wires i Convert v x g = g.earlier
-first_scaled_earlier wires i other v x g = g.earlier
+first_scaled_earlier : (net : NetData) (i : ℕ) (op : ScaledOp) (v : Variant) (x : WireNo) → IsGoodArgument net i x (slice_get (scaled_types op v) 0) x → x.0 < i
+first_scaled_earlier net i Convert v x g = g.earlier
+first_scaled_earlier net i other v x g = g.earlier
 
-good_scaled : (wires : List Wire) (i : ℕ) (name : List ℕ) (kind : Kind) (op : ScaledOp) (v : Variant) (x y : WireNo) → IsGoodWire wires i name kind (OfBlock (Scaled op v x y)) → IsGoodScaled wires i kind op v x y
-good_scaled wires i name kind op v x y h =
+good_scaled : (net : NetData) (i : ℕ) (name : List ℕ) (kind : Kind) (op : ScaledOp) (v : Variant) (x y : WireNo) → IsGoodWire net i name kind (OfBlock (Scaled op v x y)) → IsGoodScaled net i kind op v x y
+good_scaled net i name kind op v x y h =
     let a1 = and_parts _ _ h.agreed in
     let a2 = and_parts _ _ a1.0 in
-    let args = three_arguments wires i (Scaled op v x y) x y x refl refl refl h.earlier a2.1 in
-    let x_below = first_scaled_earlier wires i op v x args.first in
+    let args = three_arguments net i (Scaled op v x y) x y x refl refl refl h.earlier a2.1 in
+    let x_below = first_scaled_earlier net i op v x args.first in
     record {
       first = args.first;
       second = args.second;
@@ -257,18 +257,18 @@ good_scaled wires i name kind op v x y h =
       output = a1.1;
     }
 
-pub scaled-valid : (net : NetData) (i : ℕ) (op : ScaledOp) (v : Variant) (x y : WireNo) → IsValid net → i < length net.wires → (wire_at net.wires i).item ≡ OfBlock (Scaled op v x y) → IsGoodScaled net.wires i (wire_at net.wires i).kind op v x y
+pub scaled-valid : (net : NetData) (i : ℕ) (op : ScaledOp) (v : Variant) (x y : WireNo) → IsValid net → i < length net.wires → (wire_at net.wires i).item ≡ OfBlock (Scaled op v x y) → IsGoodScaled net i (wire_at net.wires i).kind op v x y
 scaled-valid net i op v x y h lt e = good_scaled _ _ _ _ op _ _ _ (good_item-valid net i (OfBlock (Scaled op v x y)) h lt e)
 
 -- each argument of a block is an earlier wire
-argument_of-good : (wires : List Wire) (i : ℕ) (name : List ℕ) (kind : Kind) (b : Block) → IsGoodWire wires i name kind (OfBlock b) → (p : ℕ) → argument_of b p < i
-argument_of-good wires i name kind (Arith op v x y z sh) h zero = (good_arith wires i name kind op v x y z sh h).earlier_x
-argument_of-good wires i name kind (Arith op v x y z sh) h (suc zero) = (good_arith wires i name kind op v x y z sh h).earlier_y
-argument_of-good wires i name kind (Arith op v x y z sh) h (suc (suc zero)) = (good_arith wires i name kind op v x y z sh h).earlier_z
-argument_of-good wires i name kind (Arith op v x y z sh) h (suc (suc (suc p))) = (good_arith wires i name kind op v x y z sh h).earlier_x
-argument_of-good wires i name kind (Scaled op v x y) h zero = (good_scaled wires i name kind op v x y h).earlier_x
-argument_of-good wires i name kind (Scaled op v x y) h (suc zero) = (good_scaled wires i name kind op v x y h).earlier_y
-argument_of-good wires i name kind (Scaled op v x y) h (suc (suc p)) = (good_scaled wires i name kind op v x y h).earlier_x
+argument_of-good : (net : NetData) (i : ℕ) (name : List ℕ) (kind : Kind) (b : Block) → IsGoodWire net i name kind (OfBlock b) → (p : ℕ) → argument_of b p < i
+argument_of-good net i name kind (Arith op v x y z sh) h zero = (good_arith net i name kind op v x y z sh h).earlier_x
+argument_of-good net i name kind (Arith op v x y z sh) h (suc zero) = (good_arith net i name kind op v x y z sh h).earlier_y
+argument_of-good net i name kind (Arith op v x y z sh) h (suc (suc zero)) = (good_arith net i name kind op v x y z sh h).earlier_z
+argument_of-good net i name kind (Arith op v x y z sh) h (suc (suc (suc p))) = (good_arith net i name kind op v x y z sh h).earlier_x
+argument_of-good net i name kind (Scaled op v x y) h zero = (good_scaled net i name kind op v x y h).earlier_x
+argument_of-good net i name kind (Scaled op v x y) h (suc zero) = (good_scaled net i name kind op v x y h).earlier_y
+argument_of-good net i name kind (Scaled op v x y) h (suc (suc p)) = (good_scaled net i name kind op v x y h).earlier_x
 
 pub argument_of-valid : (net : NetData) (i : ℕ) (b : Block) → IsValid net → i < length net.wires → (wire_at net.wires i).item ≡ OfBlock b → (p : ℕ) → argument_of b p < i
 argument_of-valid net i b h lt e p = argument_of-good _ _ _ _ b (good_item-valid net i (OfBlock b) h lt e) p

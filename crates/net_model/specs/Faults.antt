@@ -20,13 +20,13 @@ are_named wires = list_all (λ w. is_name w.name) wires
 abbrev pub has_name : List Wire → List ℕ → Bool
 has_name wires name = list_any (λ w. bytes_eq name w.name) wires
 
--- the tests of wire i, with all wires at hand
-unfoldable pub wire_tested : List Wire → ℕ → Wire → Result (Unit {0}) NetKind
-wire_tested wires i w = do
-  _ ← demand (not (has_name (take i wires) w.name)) Repeated
+-- the tests of wire i, with the whole network at hand
+unfoldable pub wire_tested : NetData → ℕ → Wire → Result (Unit {0}) NetKind
+wire_tested net i w = do
+  _ ← demand (not (has_name (take i net.wires) w.name)) Repeated
   _ ← demand (is_built_item w.item) NotBuilt
   _ ← demand (item_reads_earlier i w.item) LaterWire
-  _ ← demand (item_agrees wires w.kind w.item) TypeDiffers
+  _ ← demand (item_agrees net w.kind w.item) TypeDiffers
   _ ← demand (is_good_kind w.kind && item_in_range w.kind w.item) OutOfRange
   demand (nat_lt i most_wires) TooMany
 
@@ -36,11 +36,11 @@ at_wire wire (Ok value) = Ok value
 at_wire wire (Err kind) = Err (record { wire = wire; kind = kind })
 
 -- the tests of the wires from number i on
-unfoldable pub wires_tested : List Wire → ℕ → List Wire → Result (Unit {0}) Fault
-wires_tested wires i [] = Ok tt
-wires_tested wires i (w ∷ rest) = do
-  _ ← at_wire i (wire_tested wires i w)
-  wires_tested wires (i + 1) rest
+unfoldable pub wires_tested : NetData → ℕ → List Wire → Result (Unit {0}) Fault
+wires_tested net i [] = Ok tt
+wires_tested net i (w ∷ rest) = do
+  _ ← at_wire i (wire_tested net i w)
+  wires_tested net (i + 1) rest
 
 -- the tests of an output below others, in a network of so many wires: it isn't one of them, and it is a wire
 unfoldable pub out_tested : ℕ → List WireNo → WireNo → Result (Unit {0}) NetKind
@@ -64,5 +64,5 @@ ends_tested net = do
 -- the tests of a draft, in their order
 unfoldable pub tested : NetData → Result (Unit {0}) Fault
 tested net = do
-  _ ← wires_tested net.wires 0 net.wires
+  _ ← wires_tested net 0 net.wires
   at_wire (length net.wires) (ends_tested net)

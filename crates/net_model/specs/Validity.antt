@@ -73,9 +73,9 @@ is_earlier i None a = true
 
 -- an argument agrees with its routine: one that the routine has is a number wire of its type; one that it doesn't have
 -- repeats the first
-abbrev pub argument_agrees : List Wire → ℕ → Option Ty → ℕ → Bool
-argument_agrees wires first (Some ty) a = is_number_of ty (wire_at wires a).kind
-argument_agrees wires first None a = a == first
+abbrev pub argument_agrees : NetData → ℕ → Option Ty → ℕ → Bool
+argument_agrees net first (Some ty) a = is_number_of ty (wire_at net.wires a).kind
+argument_agrees net first None a = a == first
 
 -- each argument is an earlier wire
 abbrev pub reads_earlier : ℕ → Block → Bool
@@ -85,15 +85,15 @@ reads_earlier i b =
     && is_earlier i (type_read b 2) (argument_of b 2)
 
 -- each argument agrees with its routine
-abbrev pub arguments_agree : List Wire → Block → Bool
-arguments_agree wires b =
-    argument_agrees wires (argument_of b 0) (type_read b 0) (argument_of b 0)
-    && argument_agrees wires (argument_of b 0) (type_read b 1) (argument_of b 1)
-    && argument_agrees wires (argument_of b 0) (type_read b 2) (argument_of b 2)
+abbrev pub arguments_agree : NetData → Block → Bool
+arguments_agree net b =
+    argument_agrees net (argument_of b 0) (type_read b 0) (argument_of b 0)
+    && argument_agrees net (argument_of b 0) (type_read b 1) (argument_of b 1)
+    && argument_agrees net (argument_of b 0) (type_read b 2) (argument_of b 2)
 
 -- the types of a block, of its arguments and of its wire agree
-abbrev pub agrees : List Wire → Kind → Block → Bool
-agrees wires kind b = takes_block b && arguments_agree wires b && is_number_of (output_type b) kind
+abbrev pub agrees : NetData → Kind → Block → Bool
+agrees net kind b = takes_block b && arguments_agree net b && is_number_of (output_type b) kind
 
 -- ---- items and wires
 
@@ -110,10 +110,10 @@ item_reads_earlier i (Const value) = true
 item_reads_earlier i (OfBlock b) = reads_earlier i b
 
 -- the types of the item of a wire of this kind agree
-abbrev pub item_agrees : List Wire → Kind → Item → Bool
-item_agrees wires kind (Input lo hi) = true
-item_agrees wires kind (Const value) = true
-item_agrees wires kind (OfBlock b) = agrees wires kind b
+abbrev pub item_agrees : NetData → Kind → Item → Bool
+item_agrees net kind (Input lo hi) = true
+item_agrees net kind (Const value) = true
+item_agrees net kind (OfBlock b) = agrees net kind b
 
 -- a declared range isn't empty and lies in the kind, as does a constant; a block's numbers lie in their ranges
 abbrev pub item_in_range : Kind → Item → Bool
@@ -121,20 +121,20 @@ item_in_range kind (Input lo hi) = kind_holds kind lo && kind_holds kind hi && i
 item_in_range kind (Const value) = kind_holds kind value
 item_in_range kind (OfBlock b) = has_good_numbers b
 
--- wire i, with all wires at hand
-abbrev pub is_good_wire : List Wire → ℕ → Wire → Bool
-is_good_wire wires i w =
+-- wire i, with the whole network at hand
+abbrev pub is_good_wire : NetData → ℕ → Wire → Bool
+is_good_wire net i w =
     is_name w.name
     && is_built_item w.item
     && item_reads_earlier i w.item
-    && item_agrees wires w.kind w.item
+    && item_agrees net w.kind w.item
     && is_good_kind w.kind
     && item_in_range w.kind w.item
 
 -- the wires from number i on
-abbrev pub are_good_from : List Wire → ℕ → List Wire → Bool
-are_good_from wires i [] = true
-are_good_from wires i (w ∷ rest) = is_good_wire wires i w && are_good_from wires (i + 1) rest
+abbrev pub are_good_from : NetData → ℕ → List Wire → Bool
+are_good_from net i [] = true
+are_good_from net i (w ∷ rest) = is_good_wire net i w && are_good_from net (i + 1) rest
 
 -- no name comes twice
 abbrev pub are_distinct : List (List ℕ) → Bool
@@ -164,7 +164,7 @@ unfoldable pub is_valid : NetData → Bool
 is_valid net =
     nat_le (length net.wires) most_wires
     && are_distinct (map (λ w. w.name) net.wires)
-    && are_good_from net.wires 0 net.wires
+    && are_good_from net 0 net.wires
     && list_all (λ o. nat_lt o.0 (length net.wires)) net.outs
     && are_distinct_outs net.outs
     && has_ends net.wires net.outs

@@ -19,6 +19,18 @@ pub record NetData : Type 0 where
   pub wires : List Wire
   pub outs : List WireNo
 
+-- the network without wires
+abbrev pub no_net : NetData
+no_net = record { wires = []; outs = [] }
+
+-- a network with one wire more
+abbrev pub with_wire : NetData → Wire → NetData
+with_wire net w = record { wires = net.wires ++ w ∷ []; outs = net.outs }
+
+-- a network with one output more
+abbrev pub with_out : NetData → WireNo → NetData
+with_out net o = record { wires = net.wires; outs = net.outs ++ o ∷ [] }
+
 -- the wire that is read where there is none
 abbrev pub no_wire : Wire
 no_wire = record { name = []; kind = Num U8 0; item = Input (pos 0) (pos 0) }

@@ -2,9 +2,11 @@
 
 ghost use Rattle.std.specs.Prelude.{◌≡◌};
 ghost use Rattle.net_model.specs.Wires.{argument_of, wire_at};
+ghost use Rattle.net_model.specs.Drafts.{data_of};
 ghost use Rattle.net_model.specs.Validity.{agrees, arguments_agree, has_good_numbers, is_built_block, is_earlier, argument_agrees, is_good_kind, is_number_of, kind_holds, reads_earlier, takes_block, output_type, type_read};
 
 use crate::built::{ArgumentTypes, argument_types, is_built, is_shift, scaled_types};
+use crate::network::Draft;
 use crate::wires::{Block, Kind, Wire, WireNo};
 use fx_core::Ty;
 use fx_routines::{Routine, takes};
@@ -103,28 +105,28 @@ fn is_earlier(i: usize, ty: Option<Ty>, argument: WireNo) -> bool
 }
 
 /// Whether the types of a block, of its arguments and of its wire agree.
-pub fn agrees(wires: &[Wire], kind: Kind, block: &Block) -> bool
-    ensures { result ≡ agrees wires.now kind block.now }
+pub fn agrees(draft: &Draft, kind: Kind, block: &Block) -> bool
+    ensures { result ≡ agrees (data_of draft.now) kind block.now }
 {
-    takes_block(*block) && arguments_agree(wires, block) && is_number_of(output_type(*block), kind)
+    takes_block(*block) && arguments_agree(draft, block) && is_number_of(output_type(*block), kind)
 }
 
-fn arguments_agree(wires: &[Wire], block: &Block) -> bool
-    ensures { result ≡ arguments_agree wires.now block.now }
+fn arguments_agree(draft: &Draft, block: &Block) -> bool
+    ensures { result ≡ arguments_agree (data_of draft.now) block.now }
 {
     let types = types_read(*block);
     let Arguments { x, y, z } = arguments_of(*block);
-    argument_agrees(wires, x, types.x, x)
-        && argument_agrees(wires, x, types.y, y)
-        && argument_agrees(wires, x, types.z, z)
+    argument_agrees(draft, x, types.x, x)
+        && argument_agrees(draft, x, types.y, y)
+        && argument_agrees(draft, x, types.z, z)
 }
 
 // An argument of the type that the routine takes there; one that it doesn't have repeats the first.
-fn argument_agrees(wires: &[Wire], first: WireNo, ty: Option<Ty>, argument: WireNo) -> bool
-    ensures { result ≡ argument_agrees wires.now first.0 ty argument.0 }
+fn argument_agrees(draft: &Draft, first: WireNo, ty: Option<Ty>, argument: WireNo) -> bool
+    ensures { result ≡ argument_agrees (data_of draft.now) first.0 ty argument.0 }
 {
     match ty {
-        Some(ty) => is_number_of(ty, kind_of(wires, argument)),
+        Some(ty) => is_number_of(ty, kind_of(&draft.wires, argument)),
         None => argument.0 == first.0,
     }
 }

@@ -33,7 +33,7 @@ pub fn check_draft(draft: &Draft) -> Result<(), Fault>
     ensures few { OnOk result (length draft.now.wires.items ≤ 512) }
     ensures named { OnOk result (are_named draft.now.wires.items ≡ true) }
 {
-    check_wires(&draft.wires)?;
+    check_wires(draft)?;
     at_wire(draft.wires.len(), check_ends(draft))
 }
 
@@ -51,30 +51,33 @@ fn at_wire(wire: usize, tests: Result<(), NetKind>) -> Result<(), Fault>
 }
 
 #[tactic(auto, unfolding(crate::specs::Faults::wires_tested))]
-fn check_wires(wires: &[Wire]) -> Result<(), Fault>
-    ensures value { result ≡ wires_tested wires.now 0 wires.now }
-    ensures few { OnOk result (length wires.now ≤ 512) }
-    ensures named { OnOk result (are_named wires.now ≡ true) }
+fn check_wires(draft: &Draft) -> Result<(), Fault>
+    ensures value { result ≡ wires_tested (data_of draft.now) 0 draft.now.wires.items }
+    ensures few { OnOk result (length draft.now.wires.items ≤ 512) }
+    ensures named { OnOk result (are_named draft.now.wires.items ≡ true) }
 {
-    for i in 0..wires.len() {
-        at_wire(i, check_wire(wires, i))?;
+    for i in 0..draft.wires.len() {
+        at_wire(i, check_wire(draft, i))?;
     }
     Ok(())
 }
 
 // The tests of one wire.
 #[tactic(auto, unfolding(crate::specs::Faults::wire_tested))]
-fn check_wire(wires: &[Wire], i: usize) -> Result<(), NetKind>
-    requires { i < length wires.now }
-    ensures value { result ≡ wire_tested wires.now i (wire_at wires.now i) }
+fn check_wire(draft: &Draft, i: usize) -> Result<(), NetKind>
+    requires { i < length draft.now.wires.items }
+    ensures value { result ≡ wire_tested (data_of draft.now) i (wire_at draft.now.wires.items i) }
     ensures room { OnOk result (i < 512) }
-    ensures named { OnOk result (is_name (wire_at wires.now i).name ≡ true) }
+    ensures named { OnOk result (is_name (wire_at draft.now.wires.items i).name ≡ true) }
 {
-    let Wire { name, kind, item } = &wires[i];
-    demand!(!has_name(&wires[..i], name.bytes()), NetKind::Repeated);
+    let Wire { name, kind, item } = &draft.wires[i];
+    demand!(
+        !has_name(&draft.wires[..i], name.bytes()),
+        NetKind::Repeated
+    );
     demand!(is_built_item(*item), NetKind::NotBuilt);
     demand!(item_reads_earlier(i, *item), NetKind::LaterWire);
-    demand!(item_agrees(wires, *kind, *item), NetKind::TypeDiffers);
+    demand!(item_agrees(draft, *kind, *item), NetKind::TypeDiffers);
     demand!(
         is_good_kind(*kind) && item_in_range(*kind, *item),
         NetKind::OutOfRange
@@ -114,12 +117,12 @@ fn item_reads_earlier(i: usize, item: Item) -> bool
     }
 }
 
-fn item_agrees(wires: &[Wire], kind: Kind, item: Item) -> bool
-    ensures { result ≡ item_agrees wires.now kind item }
+fn item_agrees(draft: &Draft, kind: Kind, item: Item) -> bool
+    ensures { result ≡ item_agrees (data_of draft.now) kind item }
 {
     match item {
         Item::Input { .. } | Item::Const { .. } => true,
-        Item::Block(block) => agrees(wires, kind, &block),
+        Item::Block(block) => agrees(draft, kind, &block),
     }
 }
 

@@ -8,7 +8,7 @@ use Rattle.bench_core.proofs.cert_reader.entries_below.Given as goal
 
 abbrev pub invariant-loop-line : goal.invariant-loop-line
 invariant-loop-line l = record {
-  same : read_below (certificate_reader l.net.wires) l.fn.head [] (lines_from l.fn.lines) ≡ read_below (certificate_reader l.net.wires) l.above l.entries.items (lines_from l.rest);
+  same : read_below (certificate_reader l.net) l.fn.head [] (lines_from l.fn.lines) ≡ read_below (certificate_reader l.net) l.above l.entries.items (lines_from l.rest);
   counted : l.above + length l.rest < 2 ^ 32;
 }
 

@@ -14,4 +14,4 @@ pub returns-clause-first : goal.returns-clause-first
 returns-clause-first c = first_failing-end _ c.loop-k.k _ _ (omega arith) c.loop-k.invariant
 
 pub returns-clause-allowed : goal.returns-clause-allowed
-returns-clause-allowed c = allowed_from_none c.args.net.now.wires c.args.entries.now _ (returns-clause-first c)
+returns-clause-allowed c = allowed_from_none c.args.net.now c.args.entries.now _ (returns-clause-first c)

@@ -4,4 +4,4 @@ use Rattle.cert_rules.specs.Acceptance.{first_failing, is_allowed_at}
 use Rattle.cert_rules.proofs.checking.first_disallowed.Given as goal
 
 abbrev pub invariant-loop-k : goal.invariant-loop-k
-invariant-loop-k l = first_failing (is_allowed_at l.net.wires l.entries) 0 (length (parts_of l.net.wires)) ≡ first_failing (is_allowed_at l.net.wires l.entries) l.k (length (parts_of l.net.wires) - l.k)
+invariant-loop-k l = first_failing (is_allowed_at l.net l.entries) 0 (length (parts_of l.net.wires)) ≡ first_failing (is_allowed_at l.net l.entries) l.k (length (parts_of l.net.wires) - l.k)

@@ -7,8 +7,8 @@ first_narrow-requires-clause-allowed c =
 
 pub returns-in-Some : goal.returns-in-Some
 returns-in-Some c =
-    rejected_first c.args.net.now.wires c.args.entries.now _ _ c.first_disallowed.ensures.first c.in-Some.is
+    rejected_first c.args.net.now c.args.entries.now _ _ c.first_disallowed.ensures.first c.in-Some.is
 
 pub returns-in-None : goal.returns-in-None
 returns-in-None c =
-    rejected_later c.args.net.now.wires c.args.entries.now _ _ c.first_disallowed.ensures.first c.in-None.is c.first_narrow.ensures
+    rejected_later c.args.net.now c.args.entries.now _ _ c.first_disallowed.ensures.first c.in-None.is c.first_narrow.ensures

@@ -2,4 +2,4 @@ use Rattle.cert_rules.proofs.EntryFacts.{part_at-wire}
 use Rattle.cert_rules.proofs.lookups.part_numbered.Goals as goal
 
 pub returns-clause-wire : goal.returns-clause-wire
-returns-clause-wire c = rw c.parts.ensures.parts (part_at-wire c.args.net.now.wires c.args.part.0 c.requires)
+returns-clause-wire c = rw c.parts.ensures.parts (part_at-wire c.args.net.now c.args.part.0 c.requires)

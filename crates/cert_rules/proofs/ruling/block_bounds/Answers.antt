@@ -13,15 +13,15 @@ form_arguments c =
 
 pub value_entry-first-requires : goal.value_entry-first-requires
 value_entry-first-requires c =
-    entry_there c.args.net.now.wires c.args.all.now _ c.requires.complete (arith_arguments c).first
+    entry_there c.args.net.now c.args.all.now _ c.requires.complete (arith_arguments c).first
 
 pub value_entry-second-requires : goal.value_entry-second-requires
 value_entry-second-requires c =
-    entry_there c.args.net.now.wires c.args.all.now _ c.requires.complete (arith_arguments (goal.at.value_entry-second-requires c).In-Arith).second
+    entry_there c.args.net.now c.args.all.now _ c.requires.complete (arith_arguments (goal.at.value_entry-second-requires c).In-Arith).second
 
 pub value_entry-third-requires : goal.value_entry-third-requires
 value_entry-third-requires c =
-    entry_there c.args.net.now.wires c.args.all.now _ c.requires.complete (arith_arguments (goal.at.value_entry-third-requires c).In-Arith).third
+    entry_there c.args.net.now c.args.all.now _ c.requires.complete (arith_arguments (goal.at.value_entry-third-requires c).In-Arith).third
 
 pub operation_bounds-requires-clause-rule : goal.operation_bounds-requires-clause-rule
 operation_bounds-requires-clause-rule c = (arith_arguments (goal.at.operation_bounds-requires-clause-rule c).In-Arith).ruled
@@ -31,15 +31,15 @@ operation_bounds-requires-clause-shift c = (arith_arguments (goal.at.operation_b
 
 pub operation_bounds-requires-clause-first : goal.operation_bounds-requires-clause-first
 operation_bounds-requires-clause-first c =
-    entry_small c.args.net.now.wires c.args.all.now _ _ c.requires.allowed (arith_arguments (goal.at.operation_bounds-requires-clause-first c).In-Arith).first c.value_entry-first.ensures
+    entry_small c.args.net.now c.args.all.now _ _ c.requires.allowed (arith_arguments (goal.at.operation_bounds-requires-clause-first c).In-Arith).first c.value_entry-first.ensures
 
 pub operation_bounds-requires-clause-second : goal.operation_bounds-requires-clause-second
 operation_bounds-requires-clause-second c =
-    entry_small c.args.net.now.wires c.args.all.now _ _ c.requires.allowed (arith_arguments (goal.at.operation_bounds-requires-clause-second c).In-Arith).second c.value_entry-second.ensures
+    entry_small c.args.net.now c.args.all.now _ _ c.requires.allowed (arith_arguments (goal.at.operation_bounds-requires-clause-second c).In-Arith).second c.value_entry-second.ensures
 
 pub operation_bounds-requires-clause-third : goal.operation_bounds-requires-clause-third
 operation_bounds-requires-clause-third c =
-    entry_small c.args.net.now.wires c.args.all.now _ _ c.requires.allowed (arith_arguments (goal.at.operation_bounds-requires-clause-third c).In-Arith).third c.value_entry-third.ensures
+    entry_small c.args.net.now c.args.all.now _ _ c.requires.allowed (arith_arguments (goal.at.operation_bounds-requires-clause-third c).In-Arith).third c.value_entry-third.ensures
 
 pub returns-in-Arith : goal.returns-in-Arith
 returns-in-Arith c =
@@ -53,19 +53,19 @@ point_at-requires-in-Scaled-clause-there c = (form_arguments (goal.at.point_at-r
 
 pub value_entry-first-requires-in-Scaled : goal.value_entry-first-requires-in-Scaled
 value_entry-first-requires-in-Scaled c =
-    entry_there c.args.net.now.wires c.args.all.now _ c.requires.complete (form_arguments (goal.at.value_entry-first-requires-in-Scaled c).In-Scaled).first
+    entry_there c.args.net.now c.args.all.now _ c.requires.complete (form_arguments (goal.at.value_entry-first-requires-in-Scaled c).In-Scaled).first
 
 pub value_entry-second-requires-in-Scaled : goal.value_entry-second-requires-in-Scaled
 value_entry-second-requires-in-Scaled c =
-    entry_there c.args.net.now.wires c.args.all.now _ c.requires.complete (form_arguments (goal.at.value_entry-second-requires-in-Scaled c).In-Scaled).second
+    entry_there c.args.net.now c.args.all.now _ c.requires.complete (form_arguments (goal.at.value_entry-second-requires-in-Scaled c).In-Scaled).second
 
 pub form_bounds-requires-clause-first : goal.form_bounds-requires-clause-first
 form_bounds-requires-clause-first c =
-    entry_small c.args.net.now.wires c.args.all.now _ _ c.requires.allowed (form_arguments (goal.at.form_bounds-requires-clause-first c).In-Scaled).first c.value_entry-first-in-Scaled.ensures
+    entry_small c.args.net.now c.args.all.now _ _ c.requires.allowed (form_arguments (goal.at.form_bounds-requires-clause-first c).In-Scaled).first c.value_entry-first-in-Scaled.ensures
 
 pub form_bounds-requires-clause-second : goal.form_bounds-requires-clause-second
 form_bounds-requires-clause-second c =
-    entry_small c.args.net.now.wires c.args.all.now _ _ c.requires.allowed (form_arguments (goal.at.form_bounds-requires-clause-second c).In-Scaled).second c.value_entry-second-in-Scaled.ensures
+    entry_small c.args.net.now c.args.all.now _ _ c.requires.allowed (form_arguments (goal.at.form_bounds-requires-clause-second c).In-Scaled).second c.value_entry-second-in-Scaled.ensures
 
 pub returns-in-Scaled : goal.returns-in-Scaled
 returns-in-Scaled c =

@@ -17,5 +17,5 @@ loop-i-preserved c = (
     | then-is_input w ↦ place_behind c.args.net.now.wires c.wires-wires.result.now c.loop-i.i c.loop-i.inputs c.if-is_input.inputs c.item_at.result c.is_input.result c.wires-wires.ensures.wires c.loop-i-test.true c.item_at.ensures c.is_input.ensures c.loop-i.invariant.0 w.if-is_input.true w.inputs-is
     | else-is_input w ↦ place_kept c.args.net.now.wires c.wires-wires.result.now c.loop-i.i c.loop-i.inputs c.if-is_input.inputs c.item_at.result c.is_input.result c.wires-wires.ensures.wires c.loop-i-test.true c.item_at.ensures c.is_input.ensures c.loop-i.invariant.0 w.if-is_input.false w.inputs-is
   ],
-  c.in_ok-push.ensures.items ∙ steps_push c.args.net.now.wires c.loop-i.i c.loop-i.steps.items c.step_of.result c.step_of.ensures c.loop-i.invariant.1,
+  c.in_ok-push.ensures.items ∙ steps_push c.args.net.now c.loop-i.i c.loop-i.steps.items c.step_of.result c.step_of.ensures c.loop-i.invariant.1,
 )

@@ -1,0 +1,33 @@
+-- The rules of Mfx arithmetic and of the forms with binary points are sound as records.
+use Rattle.std.specs.Prelude.{◌≡◌, Bool, true, false, not, ◌||◌}
+use Rattle.std.proofs.Common.{refl}
+use Rattle.std.proofs.lemmas.Bool.{true≢false}
+use Rattle.mfx_arith.specs.Operations.{arith_arity, is_smooth_operation}
+use Rattle.mfx_scaled.specs.Operations.{scaled_arity}
+use Rattle.part_rules.specs.PartRules.{bounds_at}
+use Rattle.part_rules.proofs.RuleLaws.{argument_there}
+use Rattle.mfx_rules.specs.ArithRules.{arith_may_divide_by_zero}
+use Rattle.mfx_rules.specs.OperationRules.{FormsAreSound, OperationsAreSound}
+use Rattle.mfx_rules.proofs.ArithSoundnessProof.{arith_rules_are_sound}
+use Rattle.mfx_rules.proofs.ScaledSoundnessProof.{scaled_rules_are_sound}
+
+-- an operation that has a rule, whose divisor can't be 0
+pub record IsRuled (smooth divides : Bool) : Type 0 where
+  pub is_smooth : smooth ≡ true
+  pub away : divides ≡ false
+
+pub is_ruled : (smooth divides : Bool) → (not smooth || divides) ≡ false → IsRuled smooth divides
+is_ruled true true h = absurd (true≢false h)
+is_ruled true false h = record { is_smooth = refl; away = refl }
+is_ruled false divides h = absurd (true≢false h)
+
+pub operations_are_sound : OperationsAreSound
+operations_are_sound op shift given m e fit ruled within =
+    let r = is_ruled (is_smooth_operation op) (arith_may_divide_by_zero op (bounds_at given)) ruled in
+    let keeps = arith_rules_are_sound op r.is_smooth shift (bounds_at given) m e r.away fit (λ p l. within p (argument_there (arith_arity op) p l)) in
+    record { machine_divides = keeps.machine_divides; exact_divides = keeps.exact_divides; within = keeps.within }
+
+pub forms_are_sound : FormsAreSound
+forms_are_sound op points given m e fit ruled within =
+    let keeps = scaled_rules_are_sound op points (bounds_at given) m e ruled (λ p l. within p (argument_there (scaled_arity op) p l)) in
+    record { machine_divides = keeps.machine_divides; exact_divides = keeps.exact_divides; within = keeps.within }

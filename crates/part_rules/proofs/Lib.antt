@@ -1,0 +1,14 @@
+pub mod Within
+pub mod Hulls
+pub mod CornerHulls
+pub mod Numerators
+pub mod Nearness
+pub mod Products
+pub mod Divisors
+pub mod Quotients
+pub mod QuotientValues
+pub mod DivisorEnds
+pub mod Sizes
+pub mod MagnitudeWords
+pub mod WordSteps
+pub mod RuleLaws
