@@ -30,7 +30,7 @@ use Rattle.net_text.specs.declared.routine_word.Routine.{Routine}
 use Rattle.net_text.specs.declared.routine_word.Routine.TheVariants.{ArithOf, ScaledOf}
 use Rattle.net_text.specs.declared.routine_word.Arguments.{Arguments}
 use Rattle.net_text.specs.declared.line_forms.Content.{Content}
-use Rattle.net_model.specs.Wires.{place_of}
+use Rattle.net_model.specs.Wires.{NetData, place_of}
 use Rattle.net_model.specs.Built.{has_shift, is_shift}
 use Rattle.net_model.specs.Validity.{is_among, is_good_kind, kind_holds, has_good_numbers, agrees, is_earlier, type_read, is_built_item, item_reads_earlier, item_agrees, item_in_range}
 use Rattle.net_text.specs.TypeWords.{ty_of, ty_len, one_digit, two_digits, point_of_word, number_kind_of, kind_of}
@@ -177,19 +177,19 @@ routine_built word routine h = built_tests (ok_or (named word) UnknownRoutine) r
 -- ---- forms
 
 -- an item that is good behind these wires, in a wire of this kind
-pub record IsGoodItem (wires : List Wire) (kind : Kind) (item : Item) : Type 0 where
+pub record IsGoodItem (net : NetData) (kind : Kind) (item : Item) : Type 0 where
   pub built : is_built_item item ≡ true
-  pub earlier : item_reads_earlier (length wires) item ≡ true
-  pub agreed : item_agrees wires kind item ≡ true
+  pub earlier : item_reads_earlier (length net.wires) item ≡ true
+  pub agreed : item_agrees net kind item ≡ true
   pub in_range : item_in_range kind item ≡ true
 
 -- what a line gives a wire that is good behind the wires above, with a name that none of them has
-pub record IsGood (wires : List Wire) (name : List ℕ) (content : Content) : Type 0 where
+pub record IsGood (net : NetData) (name : List ℕ) (content : Content) : Type 0 where
   pub named : is_name name ≡ true
-  pub fresh : is_wire wires name ≡ false
-  pub room : nat_lt (length wires) 512 ≡ true
+  pub fresh : is_wire net.wires name ≡ false
+  pub room : nat_lt (length net.wires) 512 ≡ true
   pub kind : is_good_kind content.kind ≡ true
-  pub item : IsGoodItem wires content.kind content.item
+  pub item : IsGoodItem net content.kind content.item
 
 -- a name that no wire above has
 record IsFresh (wires : List Wire) (name : List ℕ) : Type 0 where
@@ -208,72 +208,72 @@ fresh_ok wires name done h =
     let p = fresh_tests (is_name name) (is_wire wires name) done h in record { named = p.0; fresh = p.1 }
 
 -- an input's range, and a constant, are good in their kind
-range_in : (wires : List Wire) (kind : Kind) (lo hi : ℤ) (test : Bool) (item : Item) → (kind_holds kind lo && kind_holds kind hi && int_le lo hi) ≡ test → (demand test OutOfRange >>= λ _. Ok (Input lo hi)) ≡ Ok item → IsGoodItem wires kind item
-range_in wires kind lo hi true item e h =
+range_in : (net : NetData) (kind : Kind) (lo hi : ℤ) (test : Bool) (item : Item) → (kind_holds kind lo && kind_holds kind hi && int_le lo hi) ≡ test → (demand test OutOfRange >>= λ _. Ok (Input lo hi)) ≡ Ok item → IsGoodItem net kind item
+range_in net kind lo hi true item e h =
     let same : Input lo hi ≡ item = cc in
-    let good : IsGoodItem wires kind (Input lo hi) = record { built = refl; earlier = refl; agreed = refl; in_range = e } in
-    subst (λ x. IsGoodItem wires kind x) same good
-range_in wires kind lo hi false item e h = cc
+    let good : IsGoodItem net kind (Input lo hi) = record { built = refl; earlier = refl; agreed = refl; in_range = e } in
+    subst (λ x. IsGoodItem net kind x) same good
+range_in net kind lo hi false item e h = cc
 
 -- both numbers are there
-range_tests : (wires : List Wire) (kind : Kind) (low high : Result ℤ NetKind) (item : Item) → (low >>= λ lo. high >>= λ hi. demand (kind_holds kind lo && kind_holds kind hi && int_le lo hi) OutOfRange >>= λ _. Ok (Input lo hi)) ≡ Ok item → IsGoodItem wires kind item
-range_tests wires kind (Err fault) high item h = cc
-range_tests wires kind (Ok lo) (Err fault) item h = cc
-range_tests wires kind (Ok lo) (Ok hi) item h =
-    range_in wires kind lo hi (kind_holds kind lo && kind_holds kind hi && int_le lo hi) item refl h
+range_tests : (net : NetData) (kind : Kind) (low high : Result ℤ NetKind) (item : Item) → (low >>= λ lo. high >>= λ hi. demand (kind_holds kind lo && kind_holds kind hi && int_le lo hi) OutOfRange >>= λ _. Ok (Input lo hi)) ≡ Ok item → IsGoodItem net kind item
+range_tests net kind (Err fault) high item h = cc
+range_tests net kind (Ok lo) (Err fault) item h = cc
+range_tests net kind (Ok lo) (Ok hi) item h =
+    range_in net kind lo hi (kind_holds kind lo && kind_holds kind hi && int_le lo hi) item refl h
 
 -- the range of an input is good
-input_good : (wires : List Wire) (kind : Kind) (low high : List ℕ) (item : Item) → input_of kind low high ≡ Ok item → IsGoodItem wires kind item
+input_good : (net : NetData) (kind : Kind) (low high : List ℕ) (item : Item) → input_of kind low high ≡ Ok item → IsGoodItem net kind item
 unfolding input_of
-input_good wires kind low high item h = range_tests wires kind (number_at low) (number_at high) item h
+input_good net kind low high item h = range_tests net kind (number_at low) (number_at high) item h
 
 -- the value lies in its kind
-value_in : (wires : List Wire) (kind : Kind) (value : ℤ) (test : Bool) (item : Item) → kind_holds kind value ≡ test → (demand test OutOfRange >>= λ _. Ok (Const value)) ≡ Ok item → IsGoodItem wires kind item
-value_in wires kind value true item e h =
+value_in : (net : NetData) (kind : Kind) (value : ℤ) (test : Bool) (item : Item) → kind_holds kind value ≡ test → (demand test OutOfRange >>= λ _. Ok (Const value)) ≡ Ok item → IsGoodItem net kind item
+value_in net kind value true item e h =
     let same : Const value ≡ item = cc in
-    let good : IsGoodItem wires kind (Const value) = record { built = refl; earlier = refl; agreed = refl; in_range = e } in
-    subst (λ x. IsGoodItem wires kind x) same good
-value_in wires kind value false item e h = cc
+    let good : IsGoodItem net kind (Const value) = record { built = refl; earlier = refl; agreed = refl; in_range = e } in
+    subst (λ x. IsGoodItem net kind x) same good
+value_in net kind value false item e h = cc
 
 -- the number is there
-value_tests : (wires : List Wire) (kind : Kind) (number : Result ℤ NetKind) (item : Item) → (number >>= λ value. demand (kind_holds kind value) OutOfRange >>= λ _. Ok (Const value)) ≡ Ok item → IsGoodItem wires kind item
-value_tests wires kind (Err fault) item h = cc
-value_tests wires kind (Ok value) item h = value_in wires kind value (kind_holds kind value) item refl h
+value_tests : (net : NetData) (kind : Kind) (number : Result ℤ NetKind) (item : Item) → (number >>= λ value. demand (kind_holds kind value) OutOfRange >>= λ _. Ok (Const value)) ≡ Ok item → IsGoodItem net kind item
+value_tests net kind (Err fault) item h = cc
+value_tests net kind (Ok value) item h = value_in net kind value (kind_holds kind value) item refl h
 
 -- the value of a constant is good
-const_of_good : (wires : List Wire) (kind : Kind) (word : List ℕ) (item : Item) → const_of kind word ≡ Ok item → IsGoodItem wires kind item
+const_of_good : (net : NetData) (kind : Kind) (word : List ℕ) (item : Item) → const_of kind word ≡ Ok item → IsGoodItem net kind item
 unfolding const_of
-const_of_good wires kind word item h = value_tests wires kind (number_at word) item h
+const_of_good net kind word item h = value_tests net kind (number_at word) item h
 
 -- an input's line and a constant's have one shape
-content_end : (wires : List Wire) (name : List ℕ) (room : Result (Unit {0}) NetKind) (kind : Kind) (item : Result Item NetKind) (content : Content) → IsFresh wires name → is_good_kind kind ≡ true → ((x : Item) → item ≡ Ok x → IsGoodItem wires kind x) → ((done : Unit {0}) → room ≡ Ok done → nat_lt (length wires) 512 ≡ true) → (item >>= λ x. room >>= λ _. Ok (record { kind = kind; item = x })) ≡ Ok content → IsGood wires name content
-content_end wires name room kind (Err fault) content new good i r h = cc
-content_end wires name (Err fault) kind (Ok item) content new good i r h = cc
-content_end wires name (Ok done) kind (Ok item) content new good i r h =
+content_end : (net : NetData) (name : List ℕ) (room : Result (Unit {0}) NetKind) (kind : Kind) (item : Result Item NetKind) (content : Content) → IsFresh net.wires name → is_good_kind kind ≡ true → ((x : Item) → item ≡ Ok x → IsGoodItem net kind x) → ((done : Unit {0}) → room ≡ Ok done → nat_lt (length net.wires) 512 ≡ true) → (item >>= λ x. room >>= λ _. Ok (record { kind = kind; item = x })) ≡ Ok content → IsGood net name content
+content_end net name room kind (Err fault) content new good i r h = cc
+content_end net name (Err fault) kind (Ok item) content new good i r h = cc
+content_end net name (Ok done) kind (Ok item) content new good i r h =
     let made : Content = record { kind = kind; item = item } in
     let same : made ≡ content = cc in
-    let first : IsGood wires name made = record { named = new.named; fresh = new.fresh; room = r done refl; kind = good; item = i item refl } in
-    subst (λ c. IsGood wires name c) same first
+    let first : IsGood net name made = record { named = new.named; fresh = new.fresh; room = r done refl; kind = good; item = i item refl } in
+    subst (λ c. IsGood net name c) same first
 
 -- from the front on
-content_tests : (wires : List Wire) (name : List ℕ) (form new room : Result (Unit {0}) NetKind) (kind : Result Kind NetKind) (item : Kind → Result Item NetKind) (content : Content) → ((done : Unit {0}) → new ≡ Ok done → IsFresh wires name) → ((k : Kind) → kind ≡ Ok k → is_good_kind k ≡ true) → ((k : Kind) (x : Item) → item k ≡ Ok x → IsGoodItem wires k x) → ((done : Unit {0}) → room ≡ Ok done → nat_lt (length wires) 512 ≡ true) → (form >>= λ _. new >>= λ _. kind >>= λ k. item k >>= λ x. room >>= λ _. Ok (record { kind = k; item = x })) ≡ Ok content → IsGood wires name content
-content_tests wires name (Err fault) new room kind item content f g i r h = cc
-content_tests wires name (Ok _) (Err fault) room kind item content f g i r h = cc
-content_tests wires name (Ok _) (Ok new) room (Err fault) item content f g i r h = cc
-content_tests wires name (Ok _) (Ok new) room (Ok kind) item content f g i r h =
-    content_end wires name room kind (item kind) content (f new refl) (g kind refl) (λ x e. i kind x e) r h
+content_tests : (net : NetData) (name : List ℕ) (form new room : Result (Unit {0}) NetKind) (kind : Result Kind NetKind) (item : Kind → Result Item NetKind) (content : Content) → ((done : Unit {0}) → new ≡ Ok done → IsFresh net.wires name) → ((k : Kind) → kind ≡ Ok k → is_good_kind k ≡ true) → ((k : Kind) (x : Item) → item k ≡ Ok x → IsGoodItem net k x) → ((done : Unit {0}) → room ≡ Ok done → nat_lt (length net.wires) 512 ≡ true) → (form >>= λ _. new >>= λ _. kind >>= λ k. item k >>= λ x. room >>= λ _. Ok (record { kind = k; item = x })) ≡ Ok content → IsGood net name content
+content_tests net name (Err fault) new room kind item content f g i r h = cc
+content_tests net name (Ok _) (Err fault) room kind item content f g i r h = cc
+content_tests net name (Ok _) (Ok new) room (Err fault) item content f g i r h = cc
+content_tests net name (Ok _) (Ok new) room (Ok kind) item content f g i r h =
+    content_end net name room kind (item kind) content (f new refl) (g kind refl) (λ x e. i kind x e) r h
 
 -- an input gives a good wire
-in_good : (wires : List Wire) (words : List (List ℕ)) (content : Content) → in_line wires words ≡ Ok content → IsGood wires (nth words 1) content
+in_good : (net : NetData) (words : List (List ℕ)) (content : Content) → in_line net.wires words ≡ Ok content → IsGood net (nth words 1) content
 unfolding in_line
-in_good wires words content h =
-    content_tests wires (nth words 1) (demand (length words == 5) BadLine) (fresh wires (nth words 1)) (has_room wires) (kind_at (nth words 2)) (λ k. input_of k (nth words 3) (nth words 4)) content (λ done e. fresh_ok wires (nth words 1) done e) (λ k e. kind_good (nth words 2) k (ok_or_ok (kind_of (nth words 2)) BadType k e)) (λ k x e. input_good wires k (nth words 3) (nth words 4) x e) (λ done e. demand_ok (nat_lt (length wires) 512) TooMany done e) h
+in_good net words content h =
+    content_tests net (nth words 1) (demand (length words == 5) BadLine) (fresh net.wires (nth words 1)) (has_room net.wires) (kind_at (nth words 2)) (λ k. input_of k (nth words 3) (nth words 4)) content (λ done e. fresh_ok net.wires (nth words 1) done e) (λ k e. kind_good (nth words 2) k (ok_or_ok (kind_of (nth words 2)) BadType k e)) (λ k x e. input_good net k (nth words 3) (nth words 4) x e) (λ done e. demand_ok (nat_lt (length net.wires) 512) TooMany done e) h
 
 -- a constant gives a good wire
-const_good : (wires : List Wire) (words : List (List ℕ)) (content : Content) → const_line wires words ≡ Ok content → IsGood wires (nth words 1) content
+const_good : (net : NetData) (words : List (List ℕ)) (content : Content) → const_line net.wires words ≡ Ok content → IsGood net (nth words 1) content
 unfolding const_line
-const_good wires words content h =
-    content_tests wires (nth words 1) (demand (length words == 4) BadLine) (fresh wires (nth words 1)) (has_room wires) (kind_at (nth words 2)) (λ k. const_of k (nth words 3)) content (λ done e. fresh_ok wires (nth words 1) done e) (λ k e. kind_good (nth words 2) k (ok_or_ok (kind_of (nth words 2)) BadType k e)) (λ k x e. const_of_good wires k (nth words 3) x e) (λ done e. demand_ok (nat_lt (length wires) 512) TooMany done e) h
+const_good net words content h =
+    content_tests net (nth words 1) (demand (length words == 4) BadLine) (fresh net.wires (nth words 1)) (has_room net.wires) (kind_at (nth words 2)) (λ k. const_of k (nth words 3)) content (λ done e. fresh_ok net.wires (nth words 1) done e) (λ k e. kind_good (nth words 2) k (ok_or_ok (kind_of (nth words 2)) BadType k e)) (λ k x e. const_of_good net k (nth words 3) x e) (λ done e. demand_ok (nat_lt (length net.wires) 512) TooMany done e) h
 
 -- ---- a block
 
@@ -344,8 +344,8 @@ earlier_below i a (Some ty) below = below
 earlier_below i a None below = refl
 
 -- a block of earlier wires that agrees with them, with numbers in their ranges, is good
-block_good : (wires : List Wire) (routine : Routine) (kind : Kind) (given : Arguments) (sh : ℕ) → is_built_routine routine ≡ true → AreGiven wires given → agrees wires kind (block_of routine given 0) ≡ true → has_good_numbers (block_of routine given sh) ≡ true → IsGoodItem wires kind (OfBlock (block_of routine given sh))
-block_good wires (ArithOf op v) kind given sh built g typed numbers =
+block_good : (net : NetData) (routine : Routine) (kind : Kind) (given : Arguments) (sh : ℕ) → is_built_routine routine ≡ true → AreGiven net.wires given → agrees net kind (block_of routine given 0) ≡ true → has_good_numbers (block_of routine given sh) ≡ true → IsGoodItem net kind (OfBlock (block_of routine given sh))
+block_good net (ArithOf op v) kind given sh built g typed numbers =
     let b = block_of (ArithOf op v) given sh in
     record {
       built = built;
@@ -353,7 +353,7 @@ block_good wires (ArithOf op v) kind given sh built g typed numbers =
       agreed = typed;
       in_range = numbers;
     }
-block_good wires (ScaledOf op v) kind given sh built g typed numbers =
+block_good net (ScaledOf op v) kind given sh built g typed numbers =
     let b = block_of (ScaledOf op v) given sh in
     record {
       built = refl;
@@ -363,137 +363,137 @@ block_good wires (ScaledOf op v) kind given sh built g typed numbers =
     }
 
 -- the kind of the type word, which agrees with the block
-record IsAgreed (wires : List Wire) (block : Block) (word : List ℕ) (kind : Kind) : Type 0 where
+record IsAgreed (net : NetData) (block : Block) (word : List ℕ) (kind : Kind) : Type 0 where
   found : kind_of word ≡ Some kind
-  typed : agrees wires kind block ≡ true
+  typed : agrees net kind block ≡ true
 
 -- the types agree
-agreed_end : (wires : List Wire) (block : Block) (word : List ℕ) (k kind : Kind) (test : Bool) → kind_of word ≡ Some k → agrees wires k block ≡ test → (demand test TypeDiffers >>= λ _. Ok k) ≡ Ok kind → IsAgreed wires block word kind
-agreed_end wires block word k kind true e t h =
+agreed_end : (net : NetData) (block : Block) (word : List ℕ) (k kind : Kind) (test : Bool) → kind_of word ≡ Some k → agrees net k block ≡ test → (demand test TypeDiffers >>= λ _. Ok k) ≡ Ok kind → IsAgreed net block word kind
+agreed_end net block word k kind true e t h =
     let same : k ≡ kind = cc in
-    let first : IsAgreed wires block word k = record { found = e; typed = t } in
-    subst (λ x. IsAgreed wires block word x) same first
-agreed_end wires block word k kind false e t h = cc
+    let first : IsAgreed net block word k = record { found = e; typed = t } in
+    subst (λ x. IsAgreed net block word x) same first
+agreed_end net block word k kind false e t h = cc
 
 -- the type is one of a number
-agreed_tests : (wires : List Wire) (block : Block) (word : List ℕ) (found : Option Kind) (kind : Kind) → kind_of word ≡ found → (ok_or found TypeDiffers >>= λ k. demand (agrees wires k block) TypeDiffers >>= λ _. Ok k) ≡ Ok kind → IsAgreed wires block word kind
-agreed_tests wires block word None kind e h = cc
-agreed_tests wires block word (Some k) kind e h = agreed_end wires block word k kind (agrees wires k block) e refl h
+agreed_tests : (net : NetData) (block : Block) (word : List ℕ) (found : Option Kind) (kind : Kind) → kind_of word ≡ found → (ok_or found TypeDiffers >>= λ k. demand (agrees net k block) TypeDiffers >>= λ _. Ok k) ≡ Ok kind → IsAgreed net block word kind
+agreed_tests net block word None kind e h = cc
+agreed_tests net block word (Some k) kind e h = agreed_end net block word k kind (agrees net k block) e refl h
 
 -- the type that a wire names is the one that its block gives
-agreed_good : (wires : List Wire) (block : Block) (word : List ℕ) (kind : Kind) → agreed wires block word ≡ Ok kind → IsAgreed wires block word kind
+agreed_good : (net : NetData) (block : Block) (word : List ℕ) (kind : Kind) → agreed net block word ≡ Ok kind → IsAgreed net block word kind
 unfolding agreed
-agreed_good wires block word kind h = agreed_tests wires block word (kind_of word) kind refl h
+agreed_good net block word kind h = agreed_tests net block word (kind_of word) kind refl h
 
 -- what a wire's line uses: a routine that is built, earlier wires, a type that agrees and numbers in their ranges
-record IsUsed (wires : List Wire) (routine : Routine) (word : List ℕ) (kind : Kind) (given : Arguments) (sh : ℕ) : Type 0 where
+record IsUsed (net : NetData) (routine : Routine) (word : List ℕ) (kind : Kind) (given : Arguments) (sh : ℕ) : Type 0 where
   built : is_built_routine routine ≡ true
-  earlier : AreGiven wires given
-  typed : IsAgreed wires (block_of routine given 0) word kind
+  earlier : AreGiven net.wires given
+  typed : IsAgreed net (block_of routine given 0) word kind
   numbers : has_good_numbers (block_of routine given sh) ≡ true
 
 -- from the shift on
-wire_made : (wires : List Wire) (name word : List ℕ) (routine : Routine) (given : Arguments) (k : Kind) (shift : Result ℕ NetKind) (room : Result (Unit {0}) NetKind) (content : Content) → IsFresh wires name → ((sh : ℕ) → shift ≡ Ok sh → IsUsed wires routine word k given sh) → ((done : Unit {0}) → room ≡ Ok done → nat_lt (length wires) 512 ≡ true) → (shift >>= λ sh. room >>= λ _. Ok (record { kind = k; item = OfBlock (block_of routine given sh) })) ≡ Ok content → IsGood wires name content
-wire_made wires name word routine given k (Err fault) room content new used r h = cc
-wire_made wires name word routine given k (Ok sh) (Err fault) content new used r h = cc
-wire_made wires name word routine given k (Ok sh) (Ok done) content new used r h =
+wire_made : (net : NetData) (name word : List ℕ) (routine : Routine) (given : Arguments) (k : Kind) (shift : Result ℕ NetKind) (room : Result (Unit {0}) NetKind) (content : Content) → IsFresh net.wires name → ((sh : ℕ) → shift ≡ Ok sh → IsUsed net routine word k given sh) → ((done : Unit {0}) → room ≡ Ok done → nat_lt (length net.wires) 512 ≡ true) → (shift >>= λ sh. room >>= λ _. Ok (record { kind = k; item = OfBlock (block_of routine given sh) })) ≡ Ok content → IsGood net name content
+wire_made net name word routine given k (Err fault) room content new used r h = cc
+wire_made net name word routine given k (Ok sh) (Err fault) content new used r h = cc
+wire_made net name word routine given k (Ok sh) (Ok done) content new used r h =
     let u = used sh refl in
     let made : Content = record { kind = k; item = OfBlock (block_of routine given sh) } in
     let same : made ≡ content = cc in
-    let first : IsGood wires name made = record {
+    let first : IsGood net name made = record {
       named = new.named;
       fresh = new.fresh;
       room = r done refl;
       kind = kind_good word k u.typed.found;
-      item = block_good wires routine k given sh u.built u.earlier u.typed.typed u.numbers;
+      item = block_good net routine k given sh u.built u.earlier u.typed.typed u.numbers;
     } in
-    subst (λ c. IsGood wires name c) same first
+    subst (λ c. IsGood net name c) same first
 
 -- from the arguments on
-wire_typed : (wires : List Wire) (name word : List ℕ) (routine : Routine) (given : Arguments) (typed : Result Kind NetKind) (shift : Result ℕ NetKind) (room : Result (Unit {0}) NetKind) (content : Content) → IsFresh wires name → ((k : Kind) (sh : ℕ) → typed ≡ Ok k → shift ≡ Ok sh → IsUsed wires routine word k given sh) → ((done : Unit {0}) → room ≡ Ok done → nat_lt (length wires) 512 ≡ true) → (typed >>= λ k. shift >>= λ sh. room >>= λ _. Ok (record { kind = k; item = OfBlock (block_of routine given sh) })) ≡ Ok content → IsGood wires name content
-wire_typed wires name word routine given (Err fault) shift room content new used r h = cc
-wire_typed wires name word routine given (Ok k) shift room content new used r h =
-    wire_made wires name word routine given k shift room content new (λ sh. used k sh refl) r h
+wire_typed : (net : NetData) (name word : List ℕ) (routine : Routine) (given : Arguments) (typed : Result Kind NetKind) (shift : Result ℕ NetKind) (room : Result (Unit {0}) NetKind) (content : Content) → IsFresh net.wires name → ((k : Kind) (sh : ℕ) → typed ≡ Ok k → shift ≡ Ok sh → IsUsed net routine word k given sh) → ((done : Unit {0}) → room ≡ Ok done → nat_lt (length net.wires) 512 ≡ true) → (typed >>= λ k. shift >>= λ sh. room >>= λ _. Ok (record { kind = k; item = OfBlock (block_of routine given sh) })) ≡ Ok content → IsGood net name content
+wire_typed net name word routine given (Err fault) shift room content new used r h = cc
+wire_typed net name word routine given (Ok k) shift room content new used r h =
+    wire_made net name word routine given k shift room content new (λ sh. used k sh refl) r h
 
 -- from the routine on
-wire_end : (wires : List Wire) (name word : List ℕ) (routine : Routine) (count known axis : Result (Unit {0}) NetKind) (found : Result Arguments NetKind) (typed : Arguments → Result Kind NetKind) (shift : Result ℕ NetKind) (room : Result (Unit {0}) NetKind) (content : Content) → IsFresh wires name → ((given : Arguments) (k : Kind) (sh : ℕ) → found ≡ Ok given → typed given ≡ Ok k → shift ≡ Ok sh → IsUsed wires routine word k given sh) → ((done : Unit {0}) → room ≡ Ok done → nat_lt (length wires) 512 ≡ true) → (count >>= λ _. known >>= λ _. axis >>= λ _. found >>= λ given. typed given >>= λ k. shift >>= λ sh. room >>= λ _. Ok (record { kind = k; item = OfBlock (block_of routine given sh) })) ≡ Ok content → IsGood wires name content
-wire_end wires name word routine (Err fault) known axis found typed shift room content new used r h = cc
-wire_end wires name word routine (Ok _) (Err fault) axis found typed shift room content new used r h = cc
-wire_end wires name word routine (Ok _) (Ok _) (Err fault) found typed shift room content new used r h = cc
-wire_end wires name word routine (Ok _) (Ok _) (Ok _) (Err fault) typed shift room content new used r h = cc
-wire_end wires name word routine (Ok _) (Ok _) (Ok _) (Ok given) typed shift room content new used r h =
-    wire_typed wires name word routine given (typed given) shift room content new (λ k sh. used given k sh refl) r h
+wire_end : (net : NetData) (name word : List ℕ) (routine : Routine) (count known axis : Result (Unit {0}) NetKind) (found : Result Arguments NetKind) (typed : Arguments → Result Kind NetKind) (shift : Result ℕ NetKind) (room : Result (Unit {0}) NetKind) (content : Content) → IsFresh net.wires name → ((given : Arguments) (k : Kind) (sh : ℕ) → found ≡ Ok given → typed given ≡ Ok k → shift ≡ Ok sh → IsUsed net routine word k given sh) → ((done : Unit {0}) → room ≡ Ok done → nat_lt (length net.wires) 512 ≡ true) → (count >>= λ _. known >>= λ _. axis >>= λ _. found >>= λ given. typed given >>= λ k. shift >>= λ sh. room >>= λ _. Ok (record { kind = k; item = OfBlock (block_of routine given sh) })) ≡ Ok content → IsGood net name content
+wire_end net name word routine (Err fault) known axis found typed shift room content new used r h = cc
+wire_end net name word routine (Ok _) (Err fault) axis found typed shift room content new used r h = cc
+wire_end net name word routine (Ok _) (Ok _) (Err fault) found typed shift room content new used r h = cc
+wire_end net name word routine (Ok _) (Ok _) (Ok _) (Err fault) typed shift room content new used r h = cc
+wire_end net name word routine (Ok _) (Ok _) (Ok _) (Ok given) typed shift room content new used r h =
+    wire_typed net name word routine given (typed given) shift room content new (λ k sh. used given k sh refl) r h
 
 -- up to the routine
-wire_tests : (wires : List Wire) (name word : List ℕ) (form new type : Result (Unit {0}) NetKind) (found : Result Routine NetKind) (count known : Routine → Result (Unit {0}) NetKind) (axis : Result (Unit {0}) NetKind) (arguments : Routine → Result Arguments NetKind) (typed : Routine → Arguments → Result Kind NetKind) (shift : Routine → Result ℕ NetKind) (room : Result (Unit {0}) NetKind) (content : Content) → ((done : Unit {0}) → new ≡ Ok done → IsFresh wires name) → ((routine : Routine) (given : Arguments) (k : Kind) (sh : ℕ) → found ≡ Ok routine → arguments routine ≡ Ok given → typed routine given ≡ Ok k → shift routine ≡ Ok sh → IsUsed wires routine word k given sh) → ((done : Unit {0}) → room ≡ Ok done → nat_lt (length wires) 512 ≡ true) → (form >>= λ _. new >>= λ _. type >>= λ _. found >>= λ routine. count routine >>= λ _. known routine >>= λ _. axis >>= λ _. arguments routine >>= λ given. typed routine given >>= λ k. shift routine >>= λ sh. room >>= λ _. Ok (record { kind = k; item = OfBlock (block_of routine given sh) })) ≡ Ok content → IsGood wires name content
-wire_tests wires name word (Err fault) new type found count known axis arguments typed shift room content f used r h = cc
-wire_tests wires name word (Ok _) (Err fault) type found count known axis arguments typed shift room content f used r h = cc
-wire_tests wires name word (Ok _) (Ok new) (Err fault) found count known axis arguments typed shift room content f used r h = cc
-wire_tests wires name word (Ok _) (Ok new) (Ok _) (Err fault) count known axis arguments typed shift room content f used r h = cc
-wire_tests wires name word (Ok _) (Ok new) (Ok _) (Ok routine) count known axis arguments typed shift room content f used r h =
-    wire_end wires name word routine (count routine) (known routine) axis (arguments routine) (typed routine) (shift routine) room content (f new refl) (λ given k sh. used routine given k sh refl) r h
+wire_tests : (net : NetData) (name word : List ℕ) (form new type : Result (Unit {0}) NetKind) (found : Result Routine NetKind) (count known : Routine → Result (Unit {0}) NetKind) (axis : Result (Unit {0}) NetKind) (arguments : Routine → Result Arguments NetKind) (typed : Routine → Arguments → Result Kind NetKind) (shift : Routine → Result ℕ NetKind) (room : Result (Unit {0}) NetKind) (content : Content) → ((done : Unit {0}) → new ≡ Ok done → IsFresh net.wires name) → ((routine : Routine) (given : Arguments) (k : Kind) (sh : ℕ) → found ≡ Ok routine → arguments routine ≡ Ok given → typed routine given ≡ Ok k → shift routine ≡ Ok sh → IsUsed net routine word k given sh) → ((done : Unit {0}) → room ≡ Ok done → nat_lt (length net.wires) 512 ≡ true) → (form >>= λ _. new >>= λ _. type >>= λ _. found >>= λ routine. count routine >>= λ _. known routine >>= λ _. axis >>= λ _. arguments routine >>= λ given. typed routine given >>= λ k. shift routine >>= λ sh. room >>= λ _. Ok (record { kind = k; item = OfBlock (block_of routine given sh) })) ≡ Ok content → IsGood net name content
+wire_tests net name word (Err fault) new type found count known axis arguments typed shift room content f used r h = cc
+wire_tests net name word (Ok _) (Err fault) type found count known axis arguments typed shift room content f used r h = cc
+wire_tests net name word (Ok _) (Ok new) (Err fault) found count known axis arguments typed shift room content f used r h = cc
+wire_tests net name word (Ok _) (Ok new) (Ok _) (Err fault) count known axis arguments typed shift room content f used r h = cc
+wire_tests net name word (Ok _) (Ok new) (Ok _) (Ok routine) count known axis arguments typed shift room content f used r h =
+    wire_end net name word routine (count routine) (known routine) axis (arguments routine) (typed routine) (shift routine) room content (f new refl) (λ given k sh. used routine given k sh refl) r h
 
 -- what a wire's line uses is there and of its types
-used_good : (wires : List Wire) (words : List (List ℕ)) (routine : Routine) (given : Arguments) (k : Kind) (sh : ℕ) → routine_at (nth words 4) ≡ Ok routine → arguments_of wires routine words ≡ Ok given → agreed wires (block_of routine given 0) (nth words 2) ≡ Ok k → shift_of routine words ≡ Ok sh → IsUsed wires routine (nth words 2) k given sh
-used_good wires words routine given k sh found arguments typed shift =
+used_good : (net : NetData) (words : List (List ℕ)) (routine : Routine) (given : Arguments) (k : Kind) (sh : ℕ) → routine_at (nth words 4) ≡ Ok routine → arguments_of net.wires routine words ≡ Ok given → agreed net (block_of routine given 0) (nth words 2) ≡ Ok k → shift_of routine words ≡ Ok sh → IsUsed net routine (nth words 2) k given sh
+used_good net words routine given k sh found arguments typed shift =
     record {
       built = routine_built (nth words 4) routine found;
-      earlier = arguments_good wires routine words given arguments;
-      typed = agreed_good wires (block_of routine given 0) (nth words 2) k typed;
+      earlier = arguments_good net.wires routine words given arguments;
+      typed = agreed_good net (block_of routine given 0) (nth words 2) k typed;
       numbers = shift_good routine words given sh shift;
     }
 
 -- a wire of a routine is good
-wire_good : (lines : List (List ℕ)) (wires : List Wire) (words : List (List ℕ)) (content : Content) → wire_line lines wires words ≡ Ok content → IsGood wires (nth words 1) content
+wire_good : (lines : List (List ℕ)) (net : NetData) (words : List (List ℕ)) (content : Content) → wire_line lines net words ≡ Ok content → IsGood net (nth words 1) content
 unfolding wire_line
-wire_good lines wires words content h =
-    wire_tests wires (nth words 1) (nth words 2) (demand (nat_le 6 (length words) && bytes_eq (nth words 3) (codes "=")) BadLine) (fresh wires (nth words 1)) (demand (is_type (nth words 2)) BadType) (routine_at (nth words 4)) (λ routine. demand (length words == words_wanted routine) BadCount) (λ routine. demand (are_known lines wires routine words) UnknownName) (demand (axis_passes (is_wire wires) (nth words 2)) LaterWire) (λ routine. arguments_of wires routine words) (λ routine given. agreed wires (block_of routine given 0) (nth words 2)) (λ routine. shift_of routine words) (has_room wires) content (λ done e. fresh_ok wires (nth words 1) done e) (λ routine given k sh. used_good wires words routine given k sh) (λ done e. demand_ok (nat_lt (length wires) 512) TooMany done e) h
+wire_good lines net words content h =
+    wire_tests net (nth words 1) (nth words 2) (demand (nat_le 6 (length words) && bytes_eq (nth words 3) (codes "=")) BadLine) (fresh net.wires (nth words 1)) (demand (is_type (nth words 2)) BadType) (routine_at (nth words 4)) (λ routine. demand (length words == words_wanted routine) BadCount) (λ routine. demand (are_known lines net.wires routine words) UnknownName) (demand (axis_passes (is_wire net.wires) (nth words 2)) LaterWire) (λ routine. arguments_of net.wires routine words) (λ routine given. agreed net (block_of routine given 0) (nth words 2)) (λ routine. shift_of routine words) (has_room net.wires) content (λ done e. fresh_ok net.wires (nth words 1) done e) (λ routine given k sh. used_good net words routine given k sh) (λ done e. demand_ok (nat_lt (length net.wires) 512) TooMany done e) h
 
 -- ---- a line that isn't built
 
 -- it gives nothing
-unbuilt_tests : (wires : List Wire) (name : List ℕ) (form new type : Result (Unit {0}) NetKind) (content : Content) → (form >>= λ _. new >>= λ _. type >>= λ _. Err NotBuilt) ≡ Ok content → IsGood wires name content
-unbuilt_tests wires name (Err fault) new type content h = cc
-unbuilt_tests wires name (Ok _) (Err fault) type content h = cc
-unbuilt_tests wires name (Ok _) (Ok _) (Err fault) content h = cc
-unbuilt_tests wires name (Ok _) (Ok _) (Ok _) content h = cc
+unbuilt_tests : (net : NetData) (name : List ℕ) (form new type : Result (Unit {0}) NetKind) (content : Content) → (form >>= λ _. new >>= λ _. type >>= λ _. Err NotBuilt) ≡ Ok content → IsGood net name content
+unbuilt_tests net name (Err fault) new type content h = cc
+unbuilt_tests net name (Ok _) (Err fault) type content h = cc
+unbuilt_tests net name (Ok _) (Ok _) (Err fault) content h = cc
+unbuilt_tests net name (Ok _) (Ok _) (Ok _) content h = cc
 
-unbuilt_good : (has_form has_type : Bool) (wires : List Wire) (words : List (List ℕ)) (content : Content) → unbuilt_line has_form has_type wires words ≡ Ok content → IsGood wires (nth words 1) content
+unbuilt_good : (has_form has_type : Bool) (net : NetData) (words : List (List ℕ)) (content : Content) → unbuilt_line has_form has_type net.wires words ≡ Ok content → IsGood net (nth words 1) content
 unfolding unbuilt_line
-unbuilt_good has_form has_type wires words content h =
-    unbuilt_tests wires (nth words 1) (demand has_form BadLine) (fresh wires (nth words 1)) (demand has_type BadType) content h
+unbuilt_good has_form has_type net words content h =
+    unbuilt_tests net (nth words 1) (demand has_form BadLine) (fresh net.wires (nth words 1)) (demand has_type BadType) content h
 
 -- ---- any line that defines a wire
 
 -- whichever keyword the line has
-line_good : (keyword : Keyword) (lines : List (List ℕ)) (wires : List Wire) (words : List (List ℕ)) (content : Content) → line_of keyword lines wires words ≡ Ok content → IsGood wires (nth words 1) content
+line_good : (keyword : Keyword) (lines : List (List ℕ)) (net : NetData) (words : List (List ℕ)) (content : Content) → line_of keyword lines net words ≡ Ok content → IsGood net (nth words 1) content
 unfolding line_of
-line_good InLine lines wires words content h = in_good wires words content h
-line_good ConstLine lines wires words content h = const_good wires words content h
-line_good AxisLine lines wires words content h =
-    unbuilt_good (nat_le 4 (length words)) (is_narrow (ty_of (nth words 2))) wires words content h
-line_good AxisStepLine lines wires words content h =
-    unbuilt_good (length words == 6) (is_narrow (ty_of (nth words 2))) wires words content h
-line_good AxisShiftLine lines wires words content h =
-    unbuilt_good (length words == 6) (is_narrow (ty_of (nth words 2))) wires words content h
-line_good TableLine lines wires words content h =
-    unbuilt_good (nat_le 4 (length words)) (is_narrow (ty_of (nth words 2))) wires words content h
-line_good MapLine lines wires words content h =
-    unbuilt_good (nat_le 5 (length words)) (is_narrow (ty_of (nth words 2))) wires words content h
-line_good WireLine lines wires words content h = wire_good lines wires words content h
-line_good DelayLine lines wires words content h =
-    unbuilt_good ((length words == 6) && bytes_eq (nth words 4) (codes "=")) (is_type (nth words 2)) wires words content h
+line_good InLine lines net words content h = in_good net words content h
+line_good ConstLine lines net words content h = const_good net words content h
+line_good AxisLine lines net words content h =
+    unbuilt_good (nat_le 4 (length words)) (is_narrow (ty_of (nth words 2))) net words content h
+line_good AxisStepLine lines net words content h =
+    unbuilt_good (length words == 6) (is_narrow (ty_of (nth words 2))) net words content h
+line_good AxisShiftLine lines net words content h =
+    unbuilt_good (length words == 6) (is_narrow (ty_of (nth words 2))) net words content h
+line_good TableLine lines net words content h =
+    unbuilt_good (nat_le 4 (length words)) (is_narrow (ty_of (nth words 2))) net words content h
+line_good MapLine lines net words content h =
+    unbuilt_good (nat_le 5 (length words)) (is_narrow (ty_of (nth words 2))) net words content h
+line_good WireLine lines net words content h = wire_good lines net words content h
+line_good DelayLine lines net words content h =
+    unbuilt_good ((length words == 6) && bytes_eq (nth words 4) (codes "=")) (is_type (nth words 2)) net words content h
 
 -- the line has one
-by_keyword : (found : Result Keyword NetKind) (lines : List (List ℕ)) (wires : List Wire) (words : List (List ℕ)) (content : Content) → (found >>= λ keyword. line_of keyword lines wires words) ≡ Ok content → IsGood wires (nth words 1) content
-by_keyword (Err fault) lines wires words content h = cc
-by_keyword (Ok keyword) lines wires words content h = line_good keyword lines wires words content h
+by_keyword : (found : Result Keyword NetKind) (lines : List (List ℕ)) (net : NetData) (words : List (List ℕ)) (content : Content) → (found >>= λ keyword. line_of keyword lines net words) ≡ Ok content → IsGood net (nth words 1) content
+by_keyword (Err fault) lines net words content h = cc
+by_keyword (Ok keyword) lines net words content h = line_good keyword lines net words content h
 
 -- a line that defines a wire gives a good one
-pub definition_good : (lines : List (List ℕ)) (wires : List Wire) (words : List (List ℕ)) (content : Content) → defining_line lines wires words ≡ Ok content → IsGood wires (nth words 1) content
+pub definition_good : (lines : List (List ℕ)) (net : NetData) (words : List (List ℕ)) (content : Content) → defining_line lines net words ≡ Ok content → IsGood net (nth words 1) content
 unfolding defining_line
-definition_good lines wires words content h =
-    by_keyword (ok_or (keyword_of (nth words 0)) BadLine) lines wires words content h
+definition_good lines net words content h =
+    by_keyword (ok_or (keyword_of (nth words 0)) BadLine) lines net words content h
 
 -- ---- an output's line
 

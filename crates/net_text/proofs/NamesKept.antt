@@ -13,7 +13,7 @@ use Rattle.net_model.specs.declared.network.NetKind.{NetKind}
 use Rattle.net_model.specs.declared.network.NetKind.TheVariants.{BadLine}
 use Rattle.net_model.specs.declared.wires.WireNo.{WireNo}
 use Rattle.net_model.specs.declared.wires.Wire.{Wire}
-use Rattle.net_model.specs.Wires.{NetData}
+use Rattle.net_model.specs.Wires.{NetData, with_out, with_wire}
 use Rattle.net_text.specs.declared.keyword.Keyword.{Keyword}
 use Rattle.net_text.specs.declared.line_forms.Content.{Content}
 use Rattle.net_text.specs.Forms.{keyword_of, is_defining, is_wire, line_of, out_line, defining_line}
@@ -69,10 +69,10 @@ keyword_there : (found : Option Keyword) (rest : Keyword → Result Content NetK
 keyword_there (Some keyword) rest content h = refl
 keyword_there None rest content h = cc
 
-defining_begins : (lines : List (List ℕ)) (wires : List Wire) (words : List (List ℕ)) (content : Content) → defining_line lines wires words ≡ Ok content → is_defining (nth words 0) ≡ true
+defining_begins : (lines : List (List ℕ)) (net : NetData) (words : List (List ℕ)) (content : Content) → defining_line lines net words ≡ Ok content → is_defining (nth words 0) ≡ true
 unfolding defining_line
-defining_begins lines wires words content h =
-    keyword_there (keyword_of (nth words 0)) (λ keyword. line_of keyword lines wires words) content h
+defining_begins lines net words content h =
+    keyword_there (keyword_of (nth words 0)) (λ keyword. line_of keyword lines net words) content h
 
 -- one more wire
 more_wires : (wires : List Wire) (w : Wire) (words : List (List ℕ)) → is_defining (nth words 0) ≡ true → w.name ≡ nth words 1 → is_wire wires (nth words 1) ≡ false → wire_names (wires ++ w ∷ []) ≡ with_defined (wire_names wires) words
@@ -82,7 +82,7 @@ more_wires wires w words defining name fresh =
     ∙ sym (ap₂ (λ b c. cond b (cond c (wire_names wires) (wire_names wires ++ nth words 1 ∷ [])) (wire_names wires)) defining (fresh_name wires (nth words 1) fresh))
 
 kept_by_definition : (net next : NetData) (words : List (List ℕ)) (made : Result Content NetKind) → ((content : Content) → made ≡ Ok content → (is_defining (nth words 0) ≡ true) × (is_wire net.wires (nth words 1) ≡ false))
-    → (made >>= λ content. Ok (record { wires = net.wires ++ record { name = nth words 1; kind = content.kind; item = content.item } ∷ []; outs = net.outs })) ≡ Ok next → wire_names next.wires ≡ with_defined (wire_names net.wires) words
+    → (made >>= λ content. Ok (with_wire net (record { name = nth words 1; kind = content.kind; item = content.item }))) ≡ Ok next → wire_names next.wires ≡ with_defined (wire_names net.wires) words
 kept_by_definition net next words (Err kind) facts h = cc
 kept_by_definition net next words (Ok content) facts h =
     let w : Wire = record { name = nth words 1; kind = content.kind; item = content.item } in
@@ -90,7 +90,7 @@ kept_by_definition net next words (Ok content) facts h =
     let f = facts content refl in
     ap wire_names same ∙ more_wires net.wires w words f.0 refl f.1
 
-kept_by_out : (net next : NetData) (made : Result WireNo NetKind) → (made >>= λ out. Ok (record { wires = net.wires; outs = net.outs ++ out ∷ [] })) ≡ Ok next → wire_names next.wires ≡ wire_names net.wires
+kept_by_out : (net next : NetData) (made : Result WireNo NetKind) → (made >>= λ out. Ok (with_out net out)) ≡ Ok next → wire_names next.wires ≡ wire_names net.wires
 kept_by_out net next (Err kind) h = cc
 kept_by_out net next (Ok out) h = let same : next.wires ≡ net.wires = cc in ap wire_names same
 
@@ -107,7 +107,7 @@ kept_by_words lines net next words h = by (bytes_eq (nth words 0) (codes "out"))
         kept_by_out net next (out_line lines net.wires net.outs words) h
         ∙ sym (defines_none (wire_names net.wires) words (out_defines_none (nth words 0) e))
     by false e h =
-        kept_by_definition net next words (defining_line lines net.wires words) (λ content made. (defining_begins lines net.wires words content made, (definition_good lines net.wires words content made).fresh)) h
+        kept_by_definition net next words (defining_line lines net words) (λ content made. (defining_begins lines net words content made, (definition_good lines net words content made).fresh)) h
 
 -- what a line without a fault gives
 unfaulted : {S K F : Type 0} (reader : Reader S K F) (number : ℕ) (made : Result S K) (next : S) → at_line reader number made ≡ Ok next → made ≡ Ok next

@@ -6,7 +6,7 @@ use Rattle.net_model.specs.declared.wires.WireNo.{WireNo}
 use Rattle.net_model.specs.declared.wires.Kind.{Kind}
 use Rattle.net_model.specs.declared.wires.Item.TheVariants.{Input, Const, Block as OfBlock}
 use Rattle.net_model.specs.declared.wires.Wire.{Wire}
-use Rattle.net_model.specs.Wires.{place_of}
+use Rattle.net_model.specs.Wires.{NetData, place_of}
 use Rattle.net_model.specs.Validity.{kind_holds, agrees, most_wires}
 use Rattle.net_text.specs.declared.routine_word.Routine.{Routine}
 use Rattle.net_text.specs.declared.routine_word.Arguments.{Arguments}
@@ -51,12 +51,12 @@ pub record IsReadAs (wires : List Wire) (words : List (List ℕ)) (routine : Rou
   pub third : place_of wires (argument_word words 2 (slice_get (types_of routine) 2)) ≡ Some z
   pub shift : shift_of routine words ≡ Ok sh
 
-pub wire_line-reads : (lines : List (List ℕ)) (wires : List Wire) (name kw rname : List ℕ) (rest : List (List ℕ)) (kind : Kind) (routine : Routine) (x y z sh : ℕ)
-    → IsNew wires name → kind_of kw ≡ Some kind → is_position kw ≡ false → routine_at rname ≡ Ok routine
-    → IsReadAs wires (block_line name kw rname rest) routine x y z sh → agrees wires kind (block_of routine (wires_given x y z) 0) ≡ true
-    → wire_line lines wires (block_line name kw rname rest) ≡ Ok (record { kind = kind; item = OfBlock (block_of routine (wires_given x y z) sh) })
+pub wire_line-reads : (lines : List (List ℕ)) (net : NetData) (name kw rname : List ℕ) (rest : List (List ℕ)) (kind : Kind) (routine : Routine) (x y z sh : ℕ)
+    → IsNew net.wires name → kind_of kw ≡ Some kind → is_position kw ≡ false → routine_at rname ≡ Ok routine
+    → IsReadAs net.wires (block_line name kw rname rest) routine x y z sh → agrees net kind (block_of routine (wires_given x y z) 0) ≡ true
+    → wire_line lines net (block_line name kw rname rest) ≡ Ok (record { kind = kind; item = OfBlock (block_of routine (wires_given x y z) sh) })
 unfolding wire_line fresh is_known arguments_of agreed
-wire_line-reads lines wires name kw rname rest kind routine x y z sh new kind_is no_position routine_is read agree =
+wire_line-reads lines net name kw rname rest kind routine x y z sh new kind_is no_position routine_is read agree =
     rw (read.long, new.named, new.fresh, kind_is, routine_is, read.counted, no_position, read.first, read.second, read.third, agree, read.shift, new.room)
 
 -- ---- outputs

@@ -34,25 +34,25 @@ first_is_earlier i [] x some earlier = absurd (omega arith)
 first_is_earlier i (t ∷ types) x some earlier = ltb-true x i earlier
 
 -- an argument is an earlier wire; so is one that the routine doesn't have, since it repeats the first
-argument_is_earlier : (wires : List Wire) (i x : ℕ) (ty : Option Ty) (a : ℕ) → x < i → is_earlier i ty a ≡ true → argument_agrees wires x ty a ≡ true → a < i
-argument_is_earlier wires i x (Some ty) a first earlier given = ltb-true a i earlier
-argument_is_earlier wires i x None a first earlier given = let same = eqb-true a x given in omega arith
+argument_is_earlier : (net : NetData) (i x : ℕ) (ty : Option Ty) (a : ℕ) → x < i → is_earlier i ty a ≡ true → argument_agrees net x ty a ≡ true → a < i
+argument_is_earlier net i x (Some ty) a first earlier given = ltb-true a i earlier
+argument_is_earlier net i x None a first earlier given = let same = eqb-true a x given in omega arith
 
 list_all-take : {X : Type 0} (p : X → Bool) (n : ℕ) (xs : List X) → list_all p xs ≡ true → list_all p (take n xs) ≡ true
 list_all-take p zero xs all = refl
 list_all-take p (suc n) [] all = refl
 list_all-take p (suc n) (x ∷ xs) all = let parts = and_parts (p x) (list_all p xs) all in and_from _ _ parts.0 (list_all-take p n xs parts.1)
 
-argument_words_good : (wires : List Wire) (i : ℕ) (b : Block) → ((a : ℕ) → a < i → is_name (wire_at wires a).name ≡ true) → reads_earlier i b ≡ true → arguments_agree wires b ≡ true → are_words (argument_words wires b) ≡ true
-argument_words_good wires i b named earlier given =
+argument_words_good : (net : NetData) (i : ℕ) (b : Block) → ((a : ℕ) → a < i → is_name (wire_at net.wires a).name ≡ true) → reads_earlier i b ≡ true → arguments_agree net b ≡ true → are_words (argument_words net.wires b) ≡ true
+argument_words_good net i b named earlier given =
     let x = argument_of b 0 in
     let before = all_three (is_earlier i (type_read b 0) x) (is_earlier i (type_read b 1) (argument_of b 1)) (is_earlier i (type_read b 2) (argument_of b 2)) earlier in
-    let same = all_three (argument_agrees wires x (type_read b 0) x) (argument_agrees wires x (type_read b 1) (argument_of b 1)) (argument_agrees wires x (type_read b 2) (argument_of b 2)) given in
+    let same = all_three (argument_agrees net x (type_read b 0) x) (argument_agrees net x (type_read b 1) (argument_of b 1)) (argument_agrees net x (type_read b 2) (argument_of b 2)) given in
     let first = first_is_earlier i (types_read b) x (few_types_read b).0 before.0 in
-    let word : (a : ℕ) → a < i → is_word (wire_at wires a).name ≡ true = λ a lt. is_word-name (wire_at wires a).name (named a lt) in
-    list_all-take is_word (length (types_read b)) (map (λ p. (wire_at wires (argument_of b p)).name) (0 ∷ 1 ∷ 2 ∷ []))
-    (and_from _ _ (word x first) (and_from _ _ (word (argument_of b 1) (argument_is_earlier wires i x (type_read b 1) (argument_of b 1) first before.1 same.1))
-    (and_from _ _ (word (argument_of b 2) (argument_is_earlier wires i x (type_read b 2) (argument_of b 2) first before.2 same.2)) refl)))
+    let word : (a : ℕ) → a < i → is_word (wire_at net.wires a).name ≡ true = λ a lt. is_word-name (wire_at net.wires a).name (named a lt) in
+    list_all-take is_word (length (types_read b)) (map (λ p. (wire_at net.wires (argument_of b p)).name) (0 ∷ 1 ∷ 2 ∷ []))
+    (and_from _ _ (word x first) (and_from _ _ (word (argument_of b 1) (argument_is_earlier net i x (type_read b 1) (argument_of b 1) first before.1 same.1))
+    (and_from _ _ (word (argument_of b 2) (argument_is_earlier net i x (type_read b 2) (argument_of b 2) first before.2 same.2)) refl)))
 
 one_number : (sh : ℕ) → leb sh 15 ≡ true → are_words (signed_decimal (pos sh) ∷ []) ≡ true
 one_number sh most = let small = leb-true sh 15 most in and_from _ _ (is_word-signed_decimal (pos sh) (omega arith)) refl
@@ -65,32 +65,32 @@ shift_words_good (Scaled op v x y) good = refl
 
 -- ---- the words of a line
 
-wire_words_good : (wires : List Wire) (i : ℕ) (name : List ℕ) (kind : Kind) (item : Item) → ((a : ℕ) → a < i → is_name (wire_at wires a).name ≡ true) → is_name name ≡ true → is_good_kind kind ≡ true
-    → item_reads_earlier i item ≡ true → item_agrees wires kind item ≡ true → item_in_range kind item ≡ true → are_words (wire_words wires (record { name = name; kind = kind; item = item })) ≡ true
-wire_words_good wires i name kind (Input lo hi) named here good earlier agree range =
+wire_words_good : (net : NetData) (i : ℕ) (name : List ℕ) (kind : Kind) (item : Item) → ((a : ℕ) → a < i → is_name (wire_at net.wires a).name ≡ true) → is_name name ≡ true → is_good_kind kind ≡ true
+    → item_reads_earlier i item ≡ true → item_agrees net kind item ≡ true → item_in_range kind item ≡ true → are_words (wire_words net.wires (record { name = name; kind = kind; item = item })) ≡ true
+wire_words_good net i name kind (Input lo hi) named here good earlier agree range =
     let ends = all_three (kind_holds kind lo) (kind_holds kind hi) (int_le lo hi) range in
     and_from _ _ (is_word-name name here) (and_from _ _ (is_word-kind_word kind good) (and_from _ _ (is_word-signed_decimal lo (kind_holds-short kind lo ends.0)) (and_from _ _ (is_word-signed_decimal hi (kind_holds-short kind hi ends.1)) refl)))
-wire_words_good wires i name kind (Const value) named here good earlier agree range =
+wire_words_good net i name kind (Const value) named here good earlier agree range =
     and_from _ _ (is_word-name name here) (and_from _ _ (is_word-kind_word kind good) (and_from _ _ (is_word-signed_decimal value (kind_holds-short kind value range)) refl))
-wire_words_good wires i name kind (OfBlock b) named here good earlier agree range =
-    let typed = all_three (takes_block b) (arguments_agree wires b) (is_number_of (output_type b) kind) agree in
-    let rest = list_all-append is_word (argument_words wires b) (shift_words b) ∙ and_from _ _ (argument_words_good wires i b named earlier typed.1) (shift_words_good b range) in
+wire_words_good net i name kind (OfBlock b) named here good earlier agree range =
+    let typed = all_three (takes_block b) (arguments_agree net b) (is_number_of (output_type b) kind) agree in
+    let rest = list_all-append is_word (argument_words net.wires b) (shift_words b) ∙ and_from _ _ (argument_words_good net i b named earlier typed.1) (shift_words_good b range) in
     and_from _ _ (is_word-name name here) (and_from _ _ (is_word-kind_word kind good) (and_from _ _ (is_word-block_name b typed.0) rest))
 
 -- ---- wires of a valid network
 
-name_is_read : (wires : List Wire) (kind : Kind) (item : Item) → is_built_item item ≡ true → item_agrees wires kind item ≡ true → NameIsRead item
-name_is_read wires kind (Input lo hi) built agree = tt
-name_is_read wires kind (Const value) built agree = tt
-name_is_read wires kind (OfBlock b) built agree =
-    routine_at-block_name b built (all_three (takes_block b) (arguments_agree wires b) (is_number_of (output_type b) kind) agree).0
+name_is_read : (net : NetData) (kind : Kind) (item : Item) → is_built_item item ≡ true → item_agrees net kind item ≡ true → NameIsRead item
+name_is_read net kind (Input lo hi) built agree = tt
+name_is_read net kind (Const value) built agree = tt
+name_is_read net kind (OfBlock b) built agree =
+    routine_at-block_name b built (all_three (takes_block b) (arguments_agree net b) (is_number_of (output_type b) kind) agree).0
 
 -- the tests of a wire, one by one
-record IsGoodWire (wires : List Wire) (i : ℕ) (w : Wire) : Type 0 where
+record IsGoodWire (net : NetData) (i : ℕ) (w : Wire) : Type 0 where
   named : is_name w.name ≡ true
   built : is_built_item w.item ≡ true
   earlier : item_reads_earlier i w.item ≡ true
-  agree : item_agrees wires w.kind w.item ≡ true
+  agree : item_agrees net w.kind w.item ≡ true
   kind : is_good_kind w.kind ≡ true
   range : item_in_range w.kind w.item ≡ true
 
@@ -100,26 +100,26 @@ all_six a b c d e f h =
     let inner = all_three (a && b) c d outer.0 in
     let first = and_parts a b inner.0 in (first.0, first.1, inner.1, inner.2, outer.1, outer.2)
 
-good_wire : (wires : List Wire) (i : ℕ) (w : Wire) → is_good_wire wires i w ≡ true → IsGoodWire wires i w
-good_wire wires i w good =
-    let p = all_six (is_name w.name) (is_built_item w.item) (item_reads_earlier i w.item) (item_agrees wires w.kind w.item) (is_good_kind w.kind) (item_in_range w.kind w.item) good in
+good_wire : (net : NetData) (i : ℕ) (w : Wire) → is_good_wire net i w ≡ true → IsGoodWire net i w
+good_wire net i w good =
+    let p = all_six (is_name w.name) (is_built_item w.item) (item_reads_earlier i w.item) (item_agrees net w.kind w.item) (is_good_kind w.kind) (item_in_range w.kind w.item) good in
     record { named = p.0; built = p.1; earlier = p.2; agree = p.3; kind = p.4; range = p.5 }
 
-wires_readable : (net : NetData) → IsValid net → AreReadable net.wires
+wires_readable : (net : NetData) → IsValid net → AreReadable net
 wires_readable net valid =
     let wires = net.wires in
-    let good : (i : ℕ) → i < length wires → IsGoodWire wires i (wire_at wires i) = λ i within. good_wire wires i (wire_at wires i) (good_wire-valid net i valid within) in
+    let good : (i : ℕ) → i < length wires → IsGoodWire net i (wire_at wires i) = λ i within. good_wire net i (wire_at wires i) (good_wire-valid net i valid within) in
     record {
       few = length-valid net valid;
       distinct = (conditions net valid).distinct;
       named = λ i within. (good i within).named;
       printable = λ i within.
           let g = good i within in
-          record { kind_good = g.kind; earlier = g.earlier; agree = g.agree; in_range = g.range; named = name_is_read wires (wire_at wires i).kind (wire_at wires i).item g.built g.agree };
+          record { kind_good = g.kind; earlier = g.earlier; agree = g.agree; in_range = g.range; named = name_is_read net (wire_at wires i).kind (wire_at wires i).item g.built g.agree };
       words = λ i within.
           let g = good i within in
           let w = wire_at wires i in
-          wire_words_good wires i w.name w.kind w.item (λ a lt. (good a (omega arith)).named) g.named g.kind g.earlier g.agree g.range;
+          wire_words_good net i w.name w.kind w.item (λ a lt. (good a (omega arith)).named) g.named g.kind g.earlier g.agree g.range;
     }
 
 -- ---- outputs
@@ -127,7 +127,7 @@ wires_readable net valid =
 out_words_good : (wires : List Wire) (o : WireNo) → is_name (wire_at wires o.0).name ≡ true → are_words (out_words wires o) ≡ true
 out_words_good wires o named = and_from _ _ (is_word-name (wire_at wires o.0).name named) refl
 
-outs_readable : (net : NetData) → IsValid net → AreReadable net.wires → AreOutputs net.wires net.outs
+outs_readable : (net : NetData) → IsValid net → AreReadable net → AreOutputs net.wires net.outs
 outs_readable net valid ok =
     let all = conditions net valid in
     let there : (j : ℕ) → j < length net.outs → (get_or net.outs j no_out).0 < length net.wires = λ j within. ltb-true _ _ (AllPass-from_list_all (λ o. nat_lt o.0 (length net.wires)) net.outs all.outs_there j no_out within) in

@@ -31,11 +31,10 @@ lines_joined first a b =
     ∙ lines_ended first (a ++ b)
 
 -- the types of each wire agree
-pub wire_agrees : (net : NetData) (wires : List Wire) (i : ℕ) (w : Wire) → wires ≡ net.wires → IsValid net → i < length wires → w ≡ wire_at wires i → item_agrees wires w.kind w.item ≡ true
+pub wire_agrees : (net : NetData) (wires : List Wire) (i : ℕ) (w : Wire) → wires ≡ net.wires → IsValid net → i < length wires → w ≡ wire_at wires i → item_agrees net w.kind w.item ≡ true
 wire_agrees net wires i w same valid within is =
-    subst (λ w. item_agrees wires w.kind w.item ≡ true) (sym is)
-    (subst (λ l. i < length l → item_agrees l (wire_at l i).kind (wire_at l i).item ≡ true) (sym same)
-    (λ below. (good_item-valid net i (wire_at net.wires i).item valid below refl).agreed) within)
+    subst (λ w. item_agrees net w.kind w.item ≡ true) (sym (is ∙ ap (λ l. wire_at l i) same))
+    (good_item-valid net i (wire_at net.wires i).item valid (subst (λ l. i < length l) same within) refl).agreed
 
 -- one word more at a line's end
 word_joined : (old between word added : List ℕ) (words : List (List ℕ)) → between ≡ old ++ 10 ∷ spaced (word ∷ words) → between ++ 32 ∷ added ≡ old ++ 10 ∷ spaced (word ∷ (words ++ added ∷ []))

@@ -1,19 +1,17 @@
 -- The line of a wire is read as the wire.
-use Rattle.std.proofs.Common.{◌≡◌, ℕ, ◌≤◌, ◌<◌, ◌^◌, true, int_le, List, [], ◌∷◌, ◌++◌, map, length, take, ℤ, unsigned_abs, Ok, arith}
+use Rattle.std.proofs.Common.{◌≡◌, ℕ, ◌≤◌, ◌<◌, ◌^◌, true, int_le, List, [], ◌++◌, map, length, take, ℤ, unsigned_abs, Ok, arith}
 use Rattle.std.specs.Fmt.{signed_decimal}
 use Rattle.std.proofs.lemmas.Bool.{and_parts}
 use Rattle.std.proofs.lemmas.Int.{ints}
 use Rattle.text_words.proofs.PrintedNumbers.{number_of-signed_decimal}
 use Rattle.fx_core.specs.declared.word_type.Ty.TheVariants.{U8, S8, U16, S16, U32, S32}
-use Rattle.net_model.specs.declared.wires.WireNo.{WireNo}
 use Rattle.net_model.specs.declared.wires.Kind.{Kind}
 use Rattle.net_model.specs.declared.wires.Kind.TheVariants.{Num, Truth}
 use Rattle.net_model.specs.declared.wires.Block.{Block}
 use Rattle.net_model.specs.declared.wires.Block.TheVariants.{Arith, Scaled}
 use Rattle.net_model.specs.declared.wires.Item.{Item}
 use Rattle.net_model.specs.declared.wires.Item.TheVariants.{Input, Const, Block as OfBlock}
-use Rattle.net_model.specs.declared.wires.Wire.{Wire}
-use Rattle.net_model.specs.Wires.{kind_least, kind_greatest}
+use Rattle.net_model.specs.Wires.{NetData, with_wire, kind_least, kind_greatest}
 use Rattle.net_model.specs.Validity.{is_good_kind, kind_holds, takes_block, arguments_agree, is_number_of, output_type, agrees, reads_earlier, item_reads_earlier, item_agrees, item_in_range, has_good_numbers, are_distinct}
 use Rattle.net_text.specs.declared.routine_word.Routine.{Routine}
 use Rattle.net_text.specs.declared.routine_word.Routine.TheVariants.{ArithOf, ScaledOf}
@@ -23,7 +21,7 @@ use Rattle.net_text.specs.Text.{after_definition, after_line}
 use Rattle.net_text.specs.Printing.{kind_word, block_name, argument_words, shift_words, wire_words}
 use Rattle.net_text.proofs.PrintedKinds.{kind_of-kind_word, is_position-kind_word}
 use Rattle.net_text.proofs.PrintedForms.{IsNew, in_line-reads, const_line-reads, wire_line-reads}
-use Rattle.net_text.proofs.PrintedBlocks.{agrees_so_far, arith_line, scaled_line, all_three}
+use Rattle.net_text.proofs.PrintedBlocks.{first_wires, agrees_so_far, arith_line, scaled_line, all_three}
 
 -- ---- numbers of a kind are short
 
@@ -68,39 +66,39 @@ NameIsRead (Input lo hi) = Unit {0}
 NameIsRead (Const value) = Unit {0}
 NameIsRead (OfBlock b) = routine_at (block_name b) ≡ Ok (routine_of_block b)
 
-block_is_read : (lines : List (List ℕ)) (wires : List Wire) (i : ℕ) (name : List ℕ) (kind : Kind) (b : Block) → are_distinct (map (λ w. w.name) wires) ≡ true → i ≤ length wires
-    → IsNew (take i wires) name → is_good_kind kind ≡ true → reads_earlier i b ≡ true → agrees wires kind b ≡ true → has_good_numbers b ≡ true → NameIsRead (OfBlock b)
-    → wire_line lines (take i wires) (wire_words wires (record { name = name; kind = kind; item = OfBlock b })) ≡ Ok (record { kind = kind; item = OfBlock b })
-block_is_read lines wires i name kind (Arith op v x y z sh) distinct within new good earlier agree numbers named =
-    let given = (all_three (takes_block (Arith op v x y z sh)) (arguments_agree wires (Arith op v x y z sh)) (is_number_of (output_type (Arith op v x y z sh)) kind) agree).1 in
-    let read = arith_line wires i op v x y z sh name (kind_word kind) (block_name (Arith op v x y z sh)) distinct within earlier given numbers in
-    wire_line-reads lines (take i wires) name (kind_word kind) (block_name (Arith op v x y z sh)) (argument_words wires (Arith op v x y z sh) ++ shift_words (Arith op v x y z sh)) kind (ArithOf op v) x.0 y.0 z.0 sh
-    new (kind_of-kind_word kind good) (is_position-kind_word kind) named read (agrees_so_far wires i kind (Arith op v x y z sh) earlier agree)
-block_is_read lines wires i name kind (Scaled op v x y) distinct within new good earlier agree numbers named =
-    let given = (all_three (takes_block (Scaled op v x y)) (arguments_agree wires (Scaled op v x y)) (is_number_of (output_type (Scaled op v x y)) kind) agree).1 in
-    let read = scaled_line wires i op v x y name (kind_word kind) (block_name (Scaled op v x y)) distinct within earlier given in
-    wire_line-reads lines (take i wires) name (kind_word kind) (block_name (Scaled op v x y)) (argument_words wires (Scaled op v x y) ++ []) kind (ScaledOf op v) x.0 y.0 x.0 0
-    new (kind_of-kind_word kind good) (is_position-kind_word kind) named read (agrees_so_far wires i kind (Scaled op v x y) earlier agree)
+block_is_read : (lines : List (List ℕ)) (net : NetData) (i : ℕ) (name : List ℕ) (kind : Kind) (b : Block) → are_distinct (map (λ w. w.name) net.wires) ≡ true → i ≤ length net.wires
+    → IsNew (take i net.wires) name → is_good_kind kind ≡ true → reads_earlier i b ≡ true → agrees net kind b ≡ true → has_good_numbers b ≡ true → NameIsRead (OfBlock b)
+    → wire_line lines (first_wires net i) (wire_words net.wires (record { name = name; kind = kind; item = OfBlock b })) ≡ Ok (record { kind = kind; item = OfBlock b })
+block_is_read lines net i name kind (Arith op v x y z sh) distinct within new good earlier agree numbers named =
+    let given = (all_three (takes_block (Arith op v x y z sh)) (arguments_agree net (Arith op v x y z sh)) (is_number_of (output_type (Arith op v x y z sh)) kind) agree).1 in
+    let read = arith_line net i op v x y z sh name (kind_word kind) (block_name (Arith op v x y z sh)) distinct within earlier given numbers in
+    wire_line-reads lines (first_wires net i) name (kind_word kind) (block_name (Arith op v x y z sh)) (argument_words net.wires (Arith op v x y z sh) ++ shift_words (Arith op v x y z sh)) kind (ArithOf op v) x.0 y.0 z.0 sh
+    new (kind_of-kind_word kind good) (is_position-kind_word kind) named read (agrees_so_far net i kind (Arith op v x y z sh) earlier agree)
+block_is_read lines net i name kind (Scaled op v x y) distinct within new good earlier agree numbers named =
+    let given = (all_three (takes_block (Scaled op v x y)) (arguments_agree net (Scaled op v x y)) (is_number_of (output_type (Scaled op v x y)) kind) agree).1 in
+    let read = scaled_line net i op v x y name (kind_word kind) (block_name (Scaled op v x y)) distinct within earlier given in
+    wire_line-reads lines (first_wires net i) name (kind_word kind) (block_name (Scaled op v x y)) (argument_words net.wires (Scaled op v x y) ++ []) kind (ScaledOf op v) x.0 y.0 x.0 0
+    new (kind_of-kind_word kind good) (is_position-kind_word kind) named read (agrees_so_far net i kind (Scaled op v x y) earlier agree)
 
 -- what is known of a wire of a valid network, with its routine's name
-pub record IsPrintable (wires : List Wire) (i : ℕ) (kind : Kind) (item : Item) : Type 0 where
+pub record IsPrintable (net : NetData) (i : ℕ) (kind : Kind) (item : Item) : Type 0 where
   pub kind_good : is_good_kind kind ≡ true
   pub earlier : item_reads_earlier i item ≡ true
-  pub agree : item_agrees wires kind item ≡ true
+  pub agree : item_agrees net kind item ≡ true
   pub in_range : item_in_range kind item ≡ true
   pub named : NameIsRead item
 
 -- a line of a wire is one of a keyword
-pub after_wire : (lines : List (List ℕ)) (wires : List Wire) (outs : List WireNo) (i : ℕ) (name : List ℕ) (kind : Kind) (item : Item) → are_distinct (map (λ w. w.name) wires) ≡ true → i ≤ length wires
-    → IsNew (take i wires) name → IsPrintable wires i kind item
-    → after_line lines (record { wires = take i wires; outs = outs }) (wire_words wires (record { name = name; kind = kind; item = item })) ≡ Ok (record { wires = take i wires ++ record { name = name; kind = kind; item = item } ∷ []; outs = outs })
+pub after_wire : (lines : List (List ℕ)) (net : NetData) (i : ℕ) (name : List ℕ) (kind : Kind) (item : Item) → are_distinct (map (λ w. w.name) net.wires) ≡ true → i ≤ length net.wires
+    → IsNew (take i net.wires) name → IsPrintable net i kind item
+    → after_line lines (first_wires net i) (wire_words net.wires (record { name = name; kind = kind; item = item })) ≡ Ok (with_wire (first_wires net i) (record { name = name; kind = kind; item = item }))
 unfolding after_line after_definition defining_line keyword_of line_of
-after_wire lines wires outs i name kind (Input lo hi) distinct within new ok =
+after_wire lines net i name kind (Input lo hi) distinct within new ok =
     let ends = all_three (kind_holds kind lo) (kind_holds kind hi) (int_le lo hi) ok.in_range in
-    rw (in_line-reads (take i wires) name (kind_word kind) (signed_decimal lo) (signed_decimal hi) kind lo hi new (kind_of-kind_word kind ok.kind_good)
+    rw (in_line-reads (take i net.wires) name (kind_word kind) (signed_decimal lo) (signed_decimal hi) kind lo hi new (kind_of-kind_word kind ok.kind_good)
     (number_of-signed_decimal lo (kind_holds-short kind lo ends.0)) (number_of-signed_decimal hi (kind_holds-short kind hi ends.1)) ok.in_range)
-after_wire lines wires outs i name kind (Const value) distinct within new ok =
-    rw (const_line-reads (take i wires) name (kind_word kind) (signed_decimal value) kind value new (kind_of-kind_word kind ok.kind_good)
+after_wire lines net i name kind (Const value) distinct within new ok =
+    rw (const_line-reads (take i net.wires) name (kind_word kind) (signed_decimal value) kind value new (kind_of-kind_word kind ok.kind_good)
     (number_of-signed_decimal value (kind_holds-short kind value ok.in_range)) ok.in_range)
-after_wire lines wires outs i name kind (OfBlock b) distinct within new ok =
-    rw (block_is_read lines wires i name kind b distinct within new ok.kind_good ok.earlier ok.agree ok.in_range ok.named)
+after_wire lines net i name kind (OfBlock b) distinct within new ok =
+    rw (block_is_read lines net i name kind b distinct within new ok.kind_good ok.earlier ok.agree ok.in_range ok.named)

@@ -23,7 +23,7 @@ use Rattle.net_text.specs.declared.routine_word.Arguments.{Arguments}
 use Rattle.net_text.specs.declared.keyword.Keyword.{Keyword}
 use Rattle.net_text.specs.declared.keyword.Keyword.TheVariants.{InLine, ConstLine, AxisLine, AxisStepLine, AxisShiftLine, TableLine, MapLine, WireLine, DelayLine}
 use Rattle.net_text.specs.declared.line_forms.Content.{Content}
-use Rattle.net_model.specs.Wires.{place_of}
+use Rattle.net_model.specs.Wires.{NetData, place_of}
 use Rattle.net_model.specs.Built.{has_shift, is_shift}
 use Rattle.net_model.specs.Validity.{item_in_range, agrees, is_among, most_wires}
 use Rattle.net_text.specs.TypeWords.{kind_of, ty_of, axis_name, is_position}
@@ -123,10 +123,10 @@ is_narrow (Some S16) = true
 is_narrow other = false
 
 -- the kind of a wire that a block gives, where they agree with its arguments; a position is given by no block that is built
-unfoldable pub agreed : List Wire → Block → List ℕ → Result Kind NetKind
-agreed wires block word = do
+unfoldable pub agreed : NetData → Block → List ℕ → Result Kind NetKind
+agreed net block word = do
   kind ← ok_or (kind_of word) TypeDiffers
-  _ ← demand (agrees wires kind block) TypeDiffers
+  _ ← demand (agrees net kind block) TypeDiffers
   Ok kind
 
 -- ---- the forms
@@ -203,25 +203,25 @@ are_known lines wires routine words =
     && is_known lines wires (argument_at routine words 0) && is_known lines wires (argument_at routine words 1) && is_known lines wires (argument_at routine words 2)
 
 -- what a wire line gives once its form and its names are tested
-abbrev pub routine_content : List Wire → Routine → List (List ℕ) → Result Content NetKind
-routine_content wires routine words = do
-  arguments ← arguments_of wires routine words
-  kind ← agreed wires (block_of routine arguments 0) (nth words 2)
+abbrev pub routine_content : NetData → Routine → List (List ℕ) → Result Content NetKind
+routine_content net routine words = do
+  arguments ← arguments_of net.wires routine words
+  kind ← agreed net (block_of routine arguments 0) (nth words 2)
   sh ← shift_of routine words
-  _ ← has_room wires
+  _ ← has_room net.wires
   Ok (record { kind = kind; item = OfBlock (block_of routine arguments sh) })
 
 -- `wire NAME TYPE = ROUTINE ARG ..`
-unfoldable pub wire_line : List (List ℕ) → List Wire → List (List ℕ) → Result Content NetKind
-wire_line lines wires words = do
+unfoldable pub wire_line : List (List ℕ) → NetData → List (List ℕ) → Result Content NetKind
+wire_line lines net words = do
   _ ← demand (nat_le 6 (length words) && bytes_eq (nth words 3) (codes "=")) BadLine
-  _ ← fresh wires (nth words 1)
+  _ ← fresh net.wires (nth words 1)
   _ ← demand (is_type (nth words 2)) BadType
   routine ← routine_at (nth words 4)
   _ ← demand (length words == words_wanted routine) BadCount
-  _ ← demand (are_known lines wires routine words) UnknownName
-  _ ← demand (axis_passes (is_wire wires) (nth words 2)) LaterWire
-  routine_content wires routine words
+  _ ← demand (are_known lines net.wires routine words) UnknownName
+  _ ← demand (axis_passes (is_wire net.wires) (nth words 2)) LaterWire
+  routine_content net routine words
 
 -- a line that isn't built: its count of words, its name and its type are tested first
 unfoldable pub unbuilt_line : Bool → Bool → List Wire → List (List ℕ) → Result Content NetKind
@@ -263,19 +263,19 @@ out_line lines wires outs words = do
   Ok (record { 0 = place })
 
 -- the line of a keyword
-unfoldable pub line_of : Keyword → List (List ℕ) → List Wire → List (List ℕ) → Result Content NetKind
-line_of InLine lines wires words = in_line wires words
-line_of ConstLine lines wires words = const_line wires words
-line_of AxisLine lines wires words = list_line wires words
-line_of AxisStepLine lines wires words = spaced_line wires words
-line_of AxisShiftLine lines wires words = spaced_line wires words
-line_of TableLine lines wires words = list_line wires words
-line_of MapLine lines wires words = map_line wires words
-line_of WireLine lines wires words = wire_line lines wires words
-line_of DelayLine lines wires words = delay_line wires words
+unfoldable pub line_of : Keyword → List (List ℕ) → NetData → List (List ℕ) → Result Content NetKind
+line_of InLine lines net words = in_line net.wires words
+line_of ConstLine lines net words = const_line net.wires words
+line_of AxisLine lines net words = list_line net.wires words
+line_of AxisStepLine lines net words = spaced_line net.wires words
+line_of AxisShiftLine lines net words = spaced_line net.wires words
+line_of TableLine lines net words = list_line net.wires words
+line_of MapLine lines net words = map_line net.wires words
+line_of WireLine lines net words = wire_line lines net words
+line_of DelayLine lines net words = delay_line net.wires words
 
 -- what a line gives that defines a name
-unfoldable pub defining_line : List (List ℕ) → List Wire → List (List ℕ) → Result Content NetKind
-defining_line lines wires words = do
+unfoldable pub defining_line : List (List ℕ) → NetData → List (List ℕ) → Result Content NetKind
+defining_line lines net words = do
   keyword ← ok_or (keyword_of (nth words 0)) BadLine
-  line_of keyword lines wires words
+  line_of keyword lines net words

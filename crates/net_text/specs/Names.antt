@@ -4,12 +4,13 @@ use Rattle.std.specs.Prelude.{◌≡◌, ℕ, List, [], ◌∷◌, ◌++◌, map
 use Rattle.std.specs.List.{list_any}
 use Rattle.text_words.specs.Lines.{nth, words_of}
 use Rattle.net_model.specs.declared.wires.Wire.{Wire}
+use Rattle.net_model.specs.Wires.{NetData}
 use Rattle.net_text.specs.Forms.{is_defining}
 
--- what is read so far of a text: its lines, read or not, and the wires of the lines that were read
+-- what is read so far of a text: its lines, read or not, and the network of the lines that were read
 pub record SoFar : Type 0 where
   pub lines : List (List ℕ)
-  pub wires : List Wire
+  pub net : NetData
 
 -- the names, with one more behind them where it isn't among them
 abbrev pub with_name : List (List ℕ) → List ℕ → List (List ℕ)

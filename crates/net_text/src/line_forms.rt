@@ -35,9 +35,9 @@ pub struct Content {
 /// The wire that a line defines, by the line's keyword.
 #[tactic(auto, unfolding(crate::specs::Forms::defining_line))]
 pub fn defining_line(above: &Above, line: &[u8]) -> Result<Content, NetKind>
-    requires { length above.now.wires ≤ 512 }
-    ensures value { result ≡ defining_line above.now.lines above.now.wires (words_of line.now) }
-    ensures room { OnOk result (length above.now.wires < 512) }
+    requires { length above.now.net.wires ≤ 512 }
+    ensures value { result ≡ defining_line above.now.lines above.now.net (words_of line.now) }
+    ensures room { OnOk result (length above.now.net.wires < 512) }
     ensures name { OnOk result (is_name (nth (words_of line.now) 1) ≡ true) }
 {
     match keyword_of(word_at(line, 0)) {
@@ -48,9 +48,9 @@ pub fn defining_line(above: &Above, line: &[u8]) -> Result<Content, NetKind>
 
 #[tactic(auto, unfolding(crate::specs::Forms::line_of))]
 fn line_of(keyword: Keyword, above: &Above, line: &[u8]) -> Result<Content, NetKind>
-    requires { length above.now.wires ≤ 512 }
-    ensures value { result ≡ line_of keyword above.now.lines above.now.wires (words_of line.now) }
-    ensures room { OnOk result (length above.now.wires < 512) }
+    requires { length above.now.net.wires ≤ 512 }
+    ensures value { result ≡ line_of keyword above.now.lines above.now.net (words_of line.now) }
+    ensures room { OnOk result (length above.now.net.wires < 512) }
     ensures name { OnOk result (is_name (nth (words_of line.now) 1) ≡ true) }
 {
     match keyword {
@@ -69,8 +69,8 @@ fn line_of(keyword: Keyword, above: &Above, line: &[u8]) -> Result<Content, NetK
 // `in NAME TYPE LO HI`
 #[tactic(auto, unfolding(crate::specs::Forms::in_line))]
 fn in_line(above: &Above, line: &[u8]) -> Result<Content, NetKind>
-    ensures value { result ≡ in_line above.now.wires (words_of line.now) }
-    ensures room { OnOk result (length above.now.wires < 512) }
+    ensures value { result ≡ in_line above.now.net.wires (words_of line.now) }
+    ensures room { OnOk result (length above.now.net.wires < 512) }
     ensures name { OnOk result (is_name (nth (words_of line.now) 1) ≡ true) }
 {
     demand!(count_words(line) == 5, NetKind::BadLine);
@@ -79,15 +79,15 @@ fn in_line(above: &Above, line: &[u8]) -> Result<Content, NetKind>
         return Err(NetKind::BadType);
     };
     let item = input_of(kind, word_at(line, 3), word_at(line, 4))?;
-    demand!(above.wires().len() < MOST_WIRES, NetKind::TooMany);
+    demand!(above.draft().wires.len() < MOST_WIRES, NetKind::TooMany);
     Ok(Content { kind, item })
 }
 
 // `const NAME TYPE VALUE`
 #[tactic(auto, unfolding(crate::specs::Forms::const_line))]
 fn const_line(above: &Above, line: &[u8]) -> Result<Content, NetKind>
-    ensures value { result ≡ const_line above.now.wires (words_of line.now) }
-    ensures room { OnOk result (length above.now.wires < 512) }
+    ensures value { result ≡ const_line above.now.net.wires (words_of line.now) }
+    ensures room { OnOk result (length above.now.net.wires < 512) }
     ensures name { OnOk result (is_name (nth (words_of line.now) 1) ≡ true) }
 {
     demand!(count_words(line) == 4, NetKind::BadLine);
@@ -96,16 +96,16 @@ fn const_line(above: &Above, line: &[u8]) -> Result<Content, NetKind>
         return Err(NetKind::BadType);
     };
     let item = const_of(kind, word_at(line, 3))?;
-    demand!(above.wires().len() < MOST_WIRES, NetKind::TooMany);
+    demand!(above.draft().wires.len() < MOST_WIRES, NetKind::TooMany);
     Ok(Content { kind, item })
 }
 
 // `wire NAME TYPE = ROUTINE ARG ..`
 #[tactic(auto, unfolding(crate::specs::Forms::wire_line))]
 fn wire_line(above: &Above, line: &[u8]) -> Result<Content, NetKind>
-    requires { length above.now.wires ≤ 512 }
-    ensures value { result ≡ wire_line above.now.lines above.now.wires (words_of line.now) }
-    ensures room { OnOk result (length above.now.wires < 512) }
+    requires { length above.now.net.wires ≤ 512 }
+    ensures value { result ≡ wire_line above.now.lines above.now.net (words_of line.now) }
+    ensures room { OnOk result (length above.now.net.wires < 512) }
     ensures name { OnOk result (is_name (nth (words_of line.now) 1) ≡ true) }
 {
     demand!(is_wire_form(line), NetKind::BadLine);
@@ -123,14 +123,14 @@ fn wire_line(above: &Above, line: &[u8]) -> Result<Content, NetKind>
 
 // What a wire line gives once its form and its names are tested.
 fn routine_content(above: &Above, routine: &Routine, line: &[u8]) -> Result<Content, NetKind>
-    requires { length above.now.wires ≤ 512 }
-    ensures value { result ≡ routine_content above.now.wires routine.now (words_of line.now) }
-    ensures room { OnOk result (length above.now.wires < 512) }
+    requires { length above.now.net.wires ≤ 512 }
+    ensures value { result ≡ routine_content above.now.net routine.now (words_of line.now) }
+    ensures room { OnOk result (length above.now.net.wires < 512) }
 {
     let arguments = arguments_of(above, *routine, line)?;
     let kind = agreed(above, block_of(*routine, arguments, 0), word_at(line, 2))?;
     let sh = shift_of(routine, line)?;
-    demand!(above.wires().len() < MOST_WIRES, NetKind::TooMany);
+    demand!(above.draft().wires.len() < MOST_WIRES, NetKind::TooMany);
     let item = Item::Block(block_of(*routine, arguments, sh));
     Ok(Content { kind, item })
 }
@@ -143,7 +143,7 @@ fn unbuilt_line(
     above: &Above,
     line: &[u8],
 ) -> Result<Content, NetKind>
-    ensures value { result ≡ unbuilt_line has_form has_type above.now.wires (words_of line.now) }
+    ensures value { result ≡ unbuilt_line has_form has_type above.now.net.wires (words_of line.now) }
     ensures none { OnOk result (true ≡ false) }
 {
     demand!(has_form, NetKind::BadLine);
@@ -154,7 +154,7 @@ fn unbuilt_line(
 
 // `axis NAME TYPE P P ..` and `table NAME TYPE V V ..`
 fn list_line(above: &Above, line: &[u8]) -> Result<Content, NetKind>
-    ensures value { result ≡ list_line above.now.wires (words_of line.now) }
+    ensures value { result ≡ list_line above.now.net.wires (words_of line.now) }
     ensures none { OnOk result (true ≡ false) }
 {
     unbuilt_line(count_words(line) >= 4, has_narrow(line), above, line)
@@ -162,7 +162,7 @@ fn list_line(above: &Above, line: &[u8]) -> Result<Content, NetKind>
 
 // `axisstep NAME TYPE OFFSET STEP COUNT` and `axisshift NAME TYPE OFFSET SHIFT COUNT`
 fn spaced_line(above: &Above, line: &[u8]) -> Result<Content, NetKind>
-    ensures value { result ≡ spaced_line above.now.wires (words_of line.now) }
+    ensures value { result ≡ spaced_line above.now.net.wires (words_of line.now) }
     ensures none { OnOk result (true ≡ false) }
 {
     unbuilt_line(count_words(line) == 6, has_narrow(line), above, line)
@@ -170,7 +170,7 @@ fn spaced_line(above: &Above, line: &[u8]) -> Result<Content, NetKind>
 
 // `map NAME TYPE NX NY V V ..`
 fn map_line(above: &Above, line: &[u8]) -> Result<Content, NetKind>
-    ensures value { result ≡ map_line above.now.wires (words_of line.now) }
+    ensures value { result ≡ map_line above.now.net.wires (words_of line.now) }
     ensures none { OnOk result (true ≡ false) }
 {
     unbuilt_line(count_words(line) >= 5, has_narrow(line), above, line)
@@ -178,7 +178,7 @@ fn map_line(above: &Above, line: &[u8]) -> Result<Content, NetKind>
 
 // `delay NAME TYPE INIT = SOURCE`
 fn delay_line(above: &Above, line: &[u8]) -> Result<Content, NetKind>
-    ensures value { result ≡ delay_line above.now.wires (words_of line.now) }
+    ensures value { result ≡ delay_line above.now.net.wires (words_of line.now) }
     ensures none { OnOk result (true ≡ false) }
 {
     unbuilt_line(is_delay_form(line), is_type(word_at(line, 2)), above, line)
@@ -191,16 +191,19 @@ fn is_delay_form(line: &[u8]) -> bool
     count_words(line) == 6 && is_literal(word_at(line, 4), b"=")
 }
 
-/// The wire that an `out NAME` names, given the outputs above.
+/// The wire that an `out NAME` names.
 #[tactic(auto, unfolding(crate::specs::Forms::out_line))]
-pub fn out_line(above: &Above, outs: &[WireNo], line: &[u8]) -> Result<WireNo, NetKind>
-    requires { length above.now.wires ≤ 512 }
-    ensures { result ≡ out_line above.now.lines above.now.wires outs.now (words_of line.now) }
+pub fn out_line(above: &Above, line: &[u8]) -> Result<WireNo, NetKind>
+    requires { length above.now.net.wires ≤ 512 }
+    ensures { result ≡ out_line above.now.lines above.now.net.wires above.now.net.outs (words_of line.now) }
 {
     demand!(count_words(line) == 2, NetKind::BadLine);
     let name = word_at(line, 1);
     demand!(is_name(name), NetKind::BadName);
-    demand!(!is_output(outs, above.place_of(name)), NetKind::Repeated);
+    demand!(
+        !is_output(&above.draft().outs, above.place_of(name)),
+        NetKind::Repeated
+    );
     demand!(above.is_known(name), NetKind::UnknownName);
     let place = wire_above(above, name)?;
     Ok(WireNo(place as u32))
@@ -221,7 +224,7 @@ fn is_wire_form(line: &[u8]) -> bool
 
 #[tactic(auto, unfolding(crate::specs::Forms::fresh))]
 fn fresh(above: &Above, name: &[u8]) -> Result<(), NetKind>
-    ensures value { result ≡ fresh above.now.wires name.now }
+    ensures value { result ≡ fresh above.now.net.wires name.now }
     ensures name { OnOk result (is_name name.now ≡ true) }
 {
     demand!(is_name(name), NetKind::BadName);
@@ -243,7 +246,7 @@ fn argument_word(line: &[u8], place: usize, ty: Option<Ty>) -> &[u8]
 }
 
 fn are_known(above: &Above, routine: &Routine, line: &[u8]) -> bool
-    ensures { result ≡ are_known above.now.lines above.now.wires routine.now (words_of line.now) }
+    ensures { result ≡ are_known above.now.lines above.now.net.wires routine.now (words_of line.now) }
 {
     let types = types_of(*routine);
     axis_is_known(above, word_at(line, 2))
@@ -253,20 +256,20 @@ fn are_known(above: &Above, routine: &Routine, line: &[u8]) -> bool
 }
 
 fn axis_is_known(above: &Above, word: &[u8]) -> bool
-    ensures { result ≡ axis_passes (is_known above.now.lines above.now.wires) word.now }
+    ensures { result ≡ axis_passes (is_known above.now.lines above.now.net.wires) word.now }
 {
     !is_position(word) || above.is_known(axis_name(word))
 }
 
 fn axis_is_reached(above: &Above, word: &[u8]) -> bool
-    ensures { result ≡ axis_passes (is_wire above.now.wires) word.now }
+    ensures { result ≡ axis_passes (is_wire above.now.net.wires) word.now }
 {
     !is_position(word) || above.is_wire(axis_name(word))
 }
 
 fn wire_above(above: &Above, name: &[u8]) -> Result<usize, NetKind>
-    ensures value { result ≡ wire_above above.now.wires name.now }
-    ensures within { IfOk result (λ place. place < length above.now.wires) }
+    ensures value { result ≡ wire_above above.now.net.wires name.now }
+    ensures within { IfOk result (λ place. place < length above.now.net.wires) }
 {
     match above.place_of(name) {
         Some(place) => Ok(place),
@@ -277,9 +280,9 @@ fn wire_above(above: &Above, name: &[u8]) -> Result<usize, NetKind>
 // The wires that a routine is given.
 #[tactic(auto, unfolding(crate::specs::Forms::arguments_of))]
 fn arguments_of(above: &Above, routine: Routine, line: &[u8]) -> Result<Arguments, NetKind>
-    requires { length above.now.wires ≤ 512 }
-    ensures value { result ≡ arguments_of above.now.wires routine (words_of line.now) }
-    ensures within { IfOk result (λ arguments. AreBelow (length above.now.wires) arguments) }
+    requires { length above.now.net.wires ≤ 512 }
+    ensures value { result ≡ arguments_of above.now.net.wires routine (words_of line.now) }
+    ensures within { IfOk result (λ arguments. AreBelow (length above.now.net.wires) arguments) }
 {
     let types = types_of(routine);
     let x = wire_above(above, argument_word(line, 0, types.x))?;
@@ -396,11 +399,11 @@ fn is_narrow(ty: Option<Ty>) -> bool
 // The kind that the wire of a block has by its type word, where the types of both agree.
 #[tactic(auto, unfolding(crate::specs::Forms::agreed))]
 fn agreed(above: &Above, block: Block, word: &[u8]) -> Result<Kind, NetKind>
-    ensures { result ≡ agreed above.now.wires block word.now }
+    ensures { result ≡ agreed above.now.net block word.now }
 {
     let Some(kind) = kind_of(word) else {
         return Err(NetKind::TypeDiffers);
     };
-    demand!(agrees(above.wires(), kind, &block), NetKind::TypeDiffers);
+    demand!(agrees(above.draft(), kind, &block), NetKind::TypeDiffers);
     Ok(kind)
 }

@@ -4,7 +4,7 @@ ghost use Rattle.net_text.specs.Forms.{is_defining};
 
 use crate::keyword::keyword_of;
 use indexmap::IndexSet;
-use net_model::Wire;
+use net_model::Draft;
 use std::alloc::{AllocError, Global};
 use std::marker::Model;
 use text_words::{next_line, without_mark, word_at};
@@ -71,50 +71,52 @@ fn is_defining(word: &[u8]) -> bool
     keyword_of(word).is_some()
 }
 
-/// What is known above a line: the names of the whole text, and the wires of the lines above.
+/// What is known above a line: the names of the whole text, and what the lines above give.
 #[derive(Drop)]
 pub struct Above<'a> {
     names: &'a Names<'a>,
-    wires: &'a [Wire],
+    draft: &'a Draft,
 }
 
 impl<'a> Model for Above<'a> {
+    ghost use Rattle.net_model.specs.Drafts.{data_of};
     ghost use Rattle.net_text.specs.Names.{AreFirst, SoFar, names_of};
 
     ghost Value = { SoFar };
 
-    ghost view = { λ a. record { lines = a.names.now; wires = a.wires.now } };
+    ghost view = { λ a. record { lines = a.names.now; net = data_of a.draft.now } };
 
-    ghost invariant = { λ a. AreFirst a.wires.now (names_of a.names.now) };
+    ghost invariant = { λ a. AreFirst a.draft.now.wires.items (names_of a.names.now) };
 }
 
 impl<'a> Above<'a> {
     ghost use Rattle.std.specs.Prelude.{◌≡◌, ◌<◌, IfSome, length};
+    ghost use Rattle.net_model.specs.Drafts.{data_of};
     ghost use Rattle.net_model.specs.Wires.{place_of};
     ghost use Rattle.net_text.specs.Forms.{is_known, is_wire};
     ghost use Rattle.net_text.specs.Names.{AreFirst, names_of};
 
-    pub fn new(names: &'a Names<'a>, wires: &'a [Wire]) -> Above<'a>
-        requires { AreFirst wires.now (names_of names.now) }
-        ensures { result ≡ record { lines = names.now; wires = wires.now } }
+    pub fn new(names: &'a Names<'a>, draft: &'a Draft) -> Above<'a>
+        requires { AreFirst draft.now.wires.items (names_of names.now) }
+        ensures { result ≡ record { lines = names.now; net = data_of draft.now } }
     {
-        Above { names, wires }
+        Above { names, draft }
     }
 
-    /// The wires of the lines above.
-    pub fn wires(&self) -> &[Wire]
-        ensures { result.now ≡ self.now.wires }
+    /// What the lines above give.
+    pub fn draft(&self) -> &Draft
+        ensures { data_of result.now ≡ self.now.net }
     {
-        self.wires
+        self.draft
     }
 
     /// The number of the wire of a name, which a line above defines.
     pub fn place_of(&self, name: &[u8]) -> Option<usize>
-        ensures value { result ≡ place_of self.now.wires name.now }
-        ensures within { IfSome result (λ place. place < length self.now.wires) }
+        ensures value { result ≡ place_of self.now.net.wires name.now }
+        ensures within { IfSome result (λ place. place < length self.now.net.wires) }
     {
         let number = self.names.number(name)?;
-        if number < self.wires.len() {
+        if number < self.draft.wires.len() {
             Some(number)
         } else {
             None
@@ -123,7 +125,7 @@ impl<'a> Above<'a> {
 
     /// Whether a line above defines a wire of the name.
     pub fn is_wire(&self, name: &[u8]) -> bool
-        ensures { result ≡ is_wire self.now.wires name.now }
+        ensures { result ≡ is_wire self.now.net.wires name.now }
     {
         self.place_of(name).is_some()
     }
@@ -131,7 +133,7 @@ impl<'a> Above<'a> {
     /// Whether some line of the text defines the name.
     #[tactic(auto, unfolding(crate::specs::Forms::is_known))]
     pub fn is_known(&self, name: &[u8]) -> bool
-        ensures { result ≡ is_known self.now.lines self.now.wires name.now }
+        ensures { result ≡ is_known self.now.lines self.now.net.wires name.now }
     {
         self.is_wire(name) || self.names.has(name)
     }

@@ -34,9 +34,8 @@ pub fn law_of_printing()
 fn push_wires(text: &mut Vec<u8>, net: &Network) -> Result<(), AllocError>
     ensures { OnOk result (text.new.items ≡ text.old.items ++ lines_below (map (wire_words net.now.wires) net.now.wires)) }
 {
-    let wires = net.wires();
-    for wire in wires {
-        push_wire(text, wires, wire)?;
+    for wire in net.wires() {
+        push_wire(text, net, wire)?;
     }
     Ok(())
 }
@@ -59,15 +58,15 @@ fn push_out(text: &mut Vec<u8>, wires: &[Wire], out: WireNo) -> Result<(), Alloc
     push_piece(text, b' ', name_of(wires, out))
 }
 
-fn push_wire(text: &mut Vec<u8>, wires: &[Wire], wire: &Wire) -> Result<(), AllocError>
-    requires { item_agrees wires.now wire.now.kind wire.now.item ≡ true }
-    ensures { OnOk result (text.new.items ≡ text.old.items ++ 10 ∷ spaced (wire_words wires.now wire.now)) }
+fn push_wire(text: &mut Vec<u8>, net: &Network, wire: &Wire) -> Result<(), AllocError>
+    requires { item_agrees net.now wire.now.kind wire.now.item ≡ true }
+    ensures { OnOk result (text.new.items ≡ text.old.items ++ 10 ∷ spaced (wire_words net.now.wires wire.now)) }
 {
     let name = wire.name.bytes();
     match wire.item {
         Item::Input { lo, hi } => push_input(text, name, wire.kind, lo, hi),
         Item::Const { value } => push_const(text, name, wire.kind, value),
-        Item::Block(block) => push_block(text, wires, name, wire.kind, &block),
+        Item::Block(block) => push_block(text, net.wires(), name, wire.kind, &block),
     }
 }
 

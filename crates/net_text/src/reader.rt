@@ -1,8 +1,8 @@
 // Reads a network's text.
-ghost use Rattle.std.specs.Prelude.{◌≡◌, ◌+◌, ◌<◌, ◌≤◌, ◌∷◌, ◌++◌, ◌^◌, [], List, ℕ, length, codes, true, IfErr, IfOk, Ok, if◌then◌else◌};
+ghost use Rattle.std.specs.Prelude.{◌≡◌, ◌+◌, ◌<◌, ◌≤◌, ◌^◌, [], List, ℕ, length, codes, true, IfErr, IfOk, Ok, if◌then◌else◌};
 ghost use Rattle.text_words.specs.Lines.{lines_from, lines_of, words_of};
 ghost use Rattle.text_words.specs.Names.{is_name};
-ghost use Rattle.net_model.specs.Wires.{NetData};
+ghost use Rattle.net_model.specs.Wires.{NetData, no_net, with_out, with_wire};
 ghost use Rattle.net_model.specs.Validity.{IsValid};
 ghost use Rattle.net_model.specs.Drafts.{data_of};
 ghost use Rattle.text_words.specs.Readers.{at_line, behind_all, behind_line, head_below, read_below};
@@ -79,7 +79,7 @@ fn read_below_head<'a>(
 ) -> Result<Draft, NetError>
     requires below { head_below (codes "net") 0 (lines_of text.now) ≡ Ok (record { line = head; below = lines_from lines.now }) }
     requires few { head + length lines.now < 2 ^ 32 }
-    ensures { GivesDraft (read_below (net_reader (lines_of text.now)) head (record { wires = []; outs = [] }) (lines_from lines.now)) result }
+    ensures { GivesDraft (read_below (net_reader (lines_of text.now)) head no_net (lines_from lines.now)) result }
 {
     match Names::of(alloc, text) {
         Ok(names) => read_lines(alloc, &names, head, lines),
@@ -92,7 +92,7 @@ fn read_below_head<'a>(
 fn read_lines(alloc: Global, names: &Names, head: u32, lines: &[u8]) -> Result<Draft, NetError>
     requires few { head + length lines.now < 2 ^ 32 }
     requires below { names_below [] (lines_from lines.now) ≡ names_of names.now }
-    ensures { GivesDraft (read_below (net_reader names.now) head (record { wires = []; outs = [] }) (lines_from lines.now)) result }
+    ensures { GivesDraft (read_below (net_reader names.now) head no_net (lines_from lines.now)) result }
 {
     let mut draft = Draft {
         wires: Vec::new(alloc),
@@ -137,7 +137,7 @@ fn after_out(names: &Names, draft: Draft, number: u32, line: &[u8]) -> Result<Dr
     ensures value { GivesDraft (at_line (net_reader names.now) number (after_out names.now (data_of draft) (words_of line.now))) result }
     ensures few { IfOk result (λ next. length next.wires.items ≤ 512) }
 {
-    match out_line(&Above::new(names, &draft.wires), &draft.outs, line) {
+    match out_line(&Above::new(names, &draft), line) {
         Ok(out) => with_out(draft, out),
         Err(kind) => Err(fault_at(number, kind)),
     }
@@ -156,14 +156,14 @@ fn after_definition(
     ensures value { GivesDraft (at_line (net_reader names.now) number (after_definition names.now (data_of draft) (words_of line.now))) result }
     ensures few { IfOk result (λ next. length next.wires.items ≤ 512) }
 {
-    match defining_line(&Above::new(names, &draft.wires), line) {
+    match defining_line(&Above::new(names, &draft), line) {
         Ok(content) => with_wire(alloc, draft, word_at(line, 1), content),
         Err(kind) => Err(fault_at(number, kind)),
     }
 }
 
 fn with_out(mut draft: Draft, out: WireNo) -> Result<Draft, NetError>
-    ensures added { IfOk result (λ next. data_of next ≡ record { wires = draft.wires.items; outs = draft.outs.items ++ out ∷ [] }) }
+    ensures added { IfOk result (λ next. data_of next ≡ with_out (data_of draft) out) }
     ensures fails { IfErr result (λ fault. fault ≡ NetError.OutOfMemory) }
 {
     match draft.outs.push(out) {
@@ -179,7 +179,7 @@ fn with_wire(
     content: Content,
 ) -> Result<Draft, NetError>
     requires { is_name name.now ≡ true }
-    ensures added { IfOk result (λ next. data_of next ≡ record { wires = draft.wires.items ++ record { name = name.now; kind = content.kind; item = content.item } ∷ []; outs = draft.outs.items }) }
+    ensures added { IfOk result (λ next. data_of next ≡ with_wire (data_of draft) (record { name = name.now; kind = content.kind; item = content.item })) }
     ensures fails { IfErr result (λ fault. fault ≡ NetError.OutOfMemory) }
 {
     let name = named(alloc, name)?;
