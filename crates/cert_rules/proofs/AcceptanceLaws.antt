@@ -5,6 +5,7 @@ use Rattle.std.proofs.lemmas.Bool.{cases_eq, false≢true}
 use Rattle.fx_routines.specs.declared.operation.ArithOp.{ArithOp}
 use Rattle.fx_routines.specs.declared.operation.ArithOp.TheVariants.{Mod}
 use Rattle.fx_routines.specs.declared.operation.Variant.{Variant}
+use Rattle.fx_routines.specs.declared.table.Routine.TheVariants as routine
 use Rattle.net_model.specs.declared.wires.WireNo.{WireNo}
 use Rattle.net_model.specs.Built.{is_built}
 use Rattle.net_model.specs.declared.wires.Block.TheVariants.{Arith, Scaled}
@@ -84,7 +85,7 @@ accepts_exactly net entries smooth complete = (accepts_from_none_rejected net en
 -- ---- smoothness
 
 -- each built operation has a rule
-pub ruled_if_built : (op : ArithOp) → is_built op ≡ true → is_smooth_operation op ≡ true
+pub ruled_if_built : (op : ArithOp) → is_built (routine.Arith op) ≡ true → is_smooth_operation op ≡ true
 ruled_if_built Mod h = absurd (false≢true h)
 ruled_if_built other h = refl
 

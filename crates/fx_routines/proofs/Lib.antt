@@ -1,4 +1,5 @@
 pub mod TableRows
 pub mod PartLaws
+pub mod SameRoutines
 pub mod NameLaws
 mod DistinctNames

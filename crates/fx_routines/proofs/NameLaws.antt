@@ -4,17 +4,14 @@ use Rattle.std.specs.List.{list_all, Any}
 use Rattle.std.proofs.lemmas.Bool.{and_parts, not-true, or_cases, true≢false}
 use Rattle.std.proofs.lemmas.Bool.Decides.{Decides-eqb}
 use Rattle.std.proofs.lemmas.Option.{option_and_then_some, same_Some}
-use denote.Enum.Bare.{same_true, true_same}
-use Rattle.fx_routines.specs.contracts.operation.ArithOp as arith_op
-use Rattle.fx_routines.specs.contracts.operation.ScaledOp as scaled_op
 use Rattle.fx_routines.specs.declared.operation.Types.{Types}
 use Rattle.fx_routines.specs.declared.table.Routine.{Routine}
-use Rattle.fx_routines.specs.declared.table.Routine.TheVariants.{Arith, Scaled, NotBuilt}
-use Rattle.fx_routines.specs.Rows.{Row, rows, routine_of, front_of, parts_of, same_routine, is_built}
+use Rattle.fx_routines.specs.Rows.{Row, rows, routine_of, front_of, parts_of, same_routine, has_variant}
 use Rattle.fx_routines.specs.Names.{words, fits, is_row_of, row_of, takes, row_name, name_by, routine_name, IsNameOf, all_names}
 use Rattle.fx_routines.specs.Reading.{after, read_parts, row_named, or_else, named_among, named, no_choice}
 use Rattle.fx_routines.specs.Variants.{HasOneWidth}
 use Rattle.fx_routines.specs.Laws.{IsReadAgain, TakesWhatItsNameReads}
+use Rattle.fx_routines.proofs.SameRoutines.{same_routine_gives, same_routine-same}
 use Rattle.fx_routines.proofs.PartLaws.{after-append, after_gives, are_readable, keep_width, one_width, parts_give, reads_words}
 
 -- ---- fronts
@@ -140,22 +137,6 @@ named-name word routine v n =
 
 -- ---- what is taken
 
-same_routine_gives : (a b : Routine) → same_routine a b ≡ true → a ≡ b
-same_routine_gives (Arith a) (Arith b) h = ap Arith (same_true arith_op.the_type tt a b h)
-same_routine_gives (Arith a) (Scaled b) h = absurd (cc)
-same_routine_gives (Arith a) NotBuilt h = absurd (cc)
-same_routine_gives (Scaled a) (Arith b) h = absurd (cc)
-same_routine_gives (Scaled a) (Scaled b) h = ap Scaled (same_true scaled_op.the_type tt a b h)
-same_routine_gives (Scaled a) NotBuilt h = absurd (cc)
-same_routine_gives NotBuilt (Arith b) h = absurd (cc)
-same_routine_gives NotBuilt (Scaled b) h = absurd (cc)
-same_routine_gives NotBuilt NotBuilt h = refl
-
-pub same_routine-same : (a : Routine) → same_routine a a ≡ true
-same_routine-same (Arith a) = true_same arith_op.the_type a a refl
-same_routine-same (Scaled a) = true_same scaled_op.the_type a a refl
-same_routine-same NotBuilt = refl
-
 find_step : (p : Row → Bool) (x : Row) (xs : List Row) (y : Row) (b : Bool) → p x ≡ b
     → (find p xs ≡ Some y → (k : ℕ) × (k < length xs) × (slice_index_or xs k y ≡ y) × (p y ≡ true))
     → cond b (Some x) (find p xs) ≡ Some y → (k : ℕ) × (k < length (x ∷ xs)) × (slice_index_or (x ∷ xs) k y ≡ y) × (p y ≡ true)
@@ -203,26 +184,26 @@ pub read_is_named : (word : List ℕ) (answer : Option (Routine × Types)) → a
 read_is_named word None e = tt
 read_is_named word (Some found) e = named_gives word found.0 found.1 (sym e)
 
--- the inputs of a built row have one width
+-- where the types of a row's routine are those of a variant, the parts keep one width
 abbrev keeps_one_width : Row → Bool
-keeps_one_width row = not (is_built (routine_of row)) || keep_width (parts_of row)
+keeps_one_width row = not (has_variant (routine_of row)) || keep_width (parts_of row)
 
 table_keeps_width : list_all keeps_one_width rows ≡ true
 unfolding rows
 table_keeps_width = refl
 
-pub built_has_one_width : (routine : Routine) (v : Types) (word : List ℕ) → IsNameOf routine v word → is_built routine ≡ true → HasOneWidth v
-built_has_one_width routine v word n built =
+pub variant_has_one_width : (routine : Routine) (v : Types) (word : List ℕ) → IsNameOf routine v word → has_variant routine ≡ true → HasOneWidth v
+variant_has_one_width routine v word n variant =
     let keeps : keeps_one_width n.1 ≡ true = ap keeps_one_width (sym n.3) ∙ all_at keeps_one_width rows table_keeps_width n.0 n.1 n.2 in
-    elim (or_cases (not (is_built (routine_of n.1))) (keep_width (parts_of n.1)) keeps) [
-      | inl not_built ↦ absurd (true≢false (sym (ap is_built n.4.0 ∙ built) ∙ not-true _ not_built))
+    elim (or_cases (not (has_variant (routine_of n.1))) (keep_width (parts_of n.1)) keeps) [
+      | inl no_variant ↦ absurd (true≢false (sym (ap has_variant n.4.0 ∙ variant) ∙ not-true _ no_variant))
       | inr same ↦ one_width (parts_of n.1) v same n.4.1
     ]
 
 pub read_has_one_width : (word : List ℕ) (answer : Option (Routine × Types)) → answer ≡ named word
-    → IfSome answer (λ found. is_built found.0 ≡ true → HasOneWidth found.1)
+    → IfSome answer (λ found. has_variant found.0 ≡ true → HasOneWidth found.1)
 read_has_one_width word None e = tt
-read_has_one_width word (Some found) e = built_has_one_width found.0 found.1 word (named_gives word found.0 found.1 (sym e))
+read_has_one_width word (Some found) e = variant_has_one_width found.0 found.1 word (named_gives word found.0 found.1 (sym e))
 
 pub names_are_read : (word : List ℕ) (answer : Option (Routine × Types)) → answer ≡ named word
     → (routine : Routine) (v : Types) → IsNameOf routine v word → answer ≡ Some (routine, v)

@@ -1,15 +1,12 @@
 -- The rows of the table of names. `row_at` and `IsAt` are for private functions' clauses alone.
 use Rattle.std.specs.Prelude.{◌≡◌, ℕ, Bool, true, false, List, [], slice_index_or}
-use denote.Enum.Bare.{sameb}
-use Rattle.fx_routines.specs.contracts.operation.ArithOp as arith
-use Rattle.fx_routines.specs.contracts.operation.ScaledOp as scaled
-use Rattle.fx_routines.specs.declared.operation.ArithOp.{ArithOp}
-use Rattle.fx_routines.specs.declared.operation.ScaledOp.{ScaledOp}
+use Rattle.fx_routines.specs.contracts.table.RoutinePartialEq.TheImpl as routine_eq
+use Rattle.fx_routines.specs.declared.control.SwitchOp.TheVariants.{Debounce}
 use Rattle.fx_routines.specs.declared.shape.Part.{Part}
 use Rattle.fx_routines.specs.declared.shape.Shape.{Shape}
 use Rattle.fx_routines.specs.declared.shape.Shape.TheVariants.{BoolToBool}
 use Rattle.fx_routines.specs.declared.table.Routine.{Routine}
-use Rattle.fx_routines.specs.declared.table.Routine.TheVariants.{Arith, Scaled, NotBuilt}
+use Rattle.fx_routines.specs.declared.table.Routine.TheVariants.{Arith, Scaled, Switch}
 use Rattle.fx_routines.specs.declared.table.TheConstants.{TABLE}
 use Rattle.fx_routines.specs.Shapes.{parts_in}
 
@@ -39,29 +36,18 @@ rows = TABLE
 
 -- the row at a place of the table
 abbrev pub row_at : ℕ → Row
-row_at i = slice_index_or rows i (NotBuilt, record { now = [] }, BoolToBool)
+row_at i = slice_index_or rows i (Switch Debounce, record { now = [] }, BoolToBool)
 
 -- x stands at the place of the list
 pub record IsAt {A : Type 0} (xs : List A) (place : ℕ) (x : A) : Type 0 where
   pub is : x ≡ slice_index_or xs place x
 
--- both are one operation of arithmetic
-abbrev pub same_arith : ArithOp → ArithOp → Bool
-same_arith = sameb arith.the_type
-
--- both are one operation with binary points
-abbrev pub same_scaled : ScaledOp → ScaledOp → Bool
-same_scaled = sameb scaled.the_type
-
--- both are one routine
+-- both are one routine, as `==` says
 abbrev pub same_routine : Routine → Routine → Bool
-same_routine (Arith a) (Arith b) = same_arith a b
-same_routine (Scaled a) (Scaled b) = same_scaled a b
-same_routine NotBuilt NotBuilt = true
-same_routine a b = false
+same_routine = routine_eq.ghosts.eq
 
--- the routine is built
-abbrev pub is_built : Routine → Bool
-is_built (Arith op) = true
-is_built (Scaled op) = true
-is_built NotBuilt = false
+-- the types of the routine are those of a `Variant`: it is one of arithmetic, or a form with binary points
+abbrev pub has_variant : Routine → Bool
+has_variant (Arith op) = true
+has_variant (Scaled op) = true
+has_variant other = false

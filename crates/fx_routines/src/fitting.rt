@@ -3,7 +3,7 @@
 ghost use Rattle.std.specs.Prelude.{◌≡◌, ◌<◌, MatchOption, None, Some};
 ghost use Rattle.std.specs.List.{list_all, list_any};
 ghost use Rattle.fx_routines.specs.Names.{fits, has_class, is_first, is_output, is_row_of, is_second, row_of, takes};
-ghost use Rattle.fx_routines.specs.Rows.{row_at, same_routine};
+ghost use Rattle.fx_routines.specs.Rows.{row_at};
 ghost use Rattle.fx_routines.specs.Variants.{belongs, is_signed, same_type};
 
 use crate::operation::Types;
@@ -36,18 +36,7 @@ fn is_row_of(place: usize, routine: Routine, v: Types) -> bool
     ensures { result ≡ is_row_of routine v (row_at place) }
 {
     let (each, _, shape) = row_at(place);
-    same_routine(each, routine) && fits(parts_in(shape), v)
-}
-
-fn same_routine(a: Routine, b: Routine) -> bool
-    ensures { result ≡ same_routine a b }
-{
-    match (a, b) {
-        (Routine::Arith(a), Routine::Arith(b)) => a == b,
-        (Routine::Scaled(a), Routine::Scaled(b)) => a == b,
-        (Routine::NotBuilt, Routine::NotBuilt) => true,
-        _ => false,
-    }
+    each == routine && fits(parts_in(shape), v)
 }
 
 // Whether names of these parts may have these types.

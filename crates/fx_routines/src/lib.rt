@@ -2,7 +2,10 @@
 // takes, and the name of a routine.
 #![tactic(auto)]
 
+mod bits;
+mod control;
 mod fitting;
+mod interpolation;
 mod laws;
 mod operation;
 mod reading;
@@ -10,7 +13,10 @@ mod shape;
 mod table;
 mod writing;
 
+pub use crate::bits::BitOp;
+pub use crate::control::{ControlOp, EdgeOp, FilterOp, HystOp, SwitchOp};
 pub use crate::fitting::takes;
+pub use crate::interpolation::{CurveOp, InterpolationOp, MapOp};
 pub use crate::laws::law_of_names;
 pub use crate::operation::{ArithOp, ScaledOp, Types, Variant};
 pub use crate::reading::routine_named;

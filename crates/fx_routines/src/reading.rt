@@ -4,7 +4,7 @@ ghost use Rattle.std.specs.Prelude.{◌≡◌, ◌<◌, IfSome, IsTrue, MatchOpt
 ghost use Rattle.fx_routines.specs.declared.operation.Types.{Types};
 ghost use Rattle.fx_routines.specs.declared.table.Routine.{Routine};
 ghost use Rattle.fx_routines.specs.Names.{IsNameOf};
-ghost use Rattle.fx_routines.specs.Rows.{is_built, row_at};
+ghost use Rattle.fx_routines.specs.Rows.{has_variant, row_at};
 ghost use Rattle.fx_routines.specs.Reading.{after, first_type, if_at_end, if_of_class, named, read_first, read_output, read_part, read_parts, read_second, read_word, row_named, no_choice};
 ghost use Rattle.fx_routines.specs.Variants.{HasOneWidth};
 
@@ -15,12 +15,12 @@ use crate::table::{ROWS, Routine, row_at};
 use crate::writing::{part_word, type_word};
 use fx_core::Ty;
 
-/// The routine that the word names, with its types, and None where it names none. One that isn't
-/// built is `NotBuilt`; the inputs of one that is have one width.
+/// The routine that the word names, with its types, and None where it names none. The types of one of
+/// arithmetic or of a form are those of a `Variant`: its inputs have one width.
 pub fn routine_named(word: &[u8]) -> Option<(Routine, Types)>
     ensures value { result ≡ named word.now }
     ensures sound { IfSome result (λ found. IsNameOf found.0 found.1 word.now) }
-    ensures one_width { IfSome result (λ found. IsTrue (is_built found.0) → HasOneWidth found.1) }
+    ensures one_width { IfSome result (λ found. IsTrue (has_variant found.0) → HasOneWidth found.1) }
     ensures complete { (routine : Routine) (v : Types) →
         IsNameOf routine v word.now → result ≡ Some (routine, v) }
 {

@@ -2,7 +2,7 @@
 
 ghost use Rattle.std.specs.Prelude.{◌≡◌, ◌<◌, ◌++◌, IsTrue, OnOk};
 ghost use Rattle.fx_routines.specs.Names.{part_word, routine_name, row_name, takes, type_word, words};
-ghost use Rattle.fx_routines.specs.Rows.{is_built, row_at};
+ghost use Rattle.fx_routines.specs.Rows.{row_at};
 
 use crate::fitting::place_of;
 use crate::operation::Types;
@@ -13,8 +13,7 @@ use std::alloc::AllocError;
 
 /// Appends the name of the routine at these types. `routine_named` reads it again.
 pub fn push_name(name: &mut Vec<u8>, routine: Routine, v: Types) -> Result<(), AllocError>
-    requires taken { IsTrue (takes routine v) }
-    requires built { IsTrue (is_built routine) }
+    requires { IsTrue (takes routine v) }
     ensures appended { OnOk result (name.new.items ≡ name.old.items ++ routine_name routine v) }
 {
     match place_of(routine, v) {

@@ -1,4 +1,4 @@
--- What a valid network keeps, and where its parts stand.
+-- What a valid network keeps.
 use Rattle.std.proofs.Common.{◌≡◌, ℕ, zero, suc, ◌+◌, ◌<◌, ◌≤◌, Bool, true, ◌&&◌, List, [], ◌∷◌, ◌++◌, map, length, get_or, ℤ, ◌≤ℤ◌, nat_lt, nat_le, int_le, refl, sym, ap, ◌∙◌, subst, arith, true≢false, ltb-true, leb-true, eqb-true, eq-eqb, ne_eqb, cond}
 use Rattle.std.specs.Prelude.{Option, Some, None, slice_get, if◌then◌else◌}
 use Rattle.std.specs.List.{list_any, list_all}
@@ -11,6 +11,7 @@ use Rattle.fx_core.specs.declared.word_type.Ty.{Ty}
 use Rattle.fx_routines.specs.declared.operation.ArithOp.{ArithOp}
 use Rattle.fx_routines.specs.declared.operation.ArithOp.TheVariants.{Abs, MulDiv, Limit, Min, Max, RateLimiter}
 use Rattle.fx_routines.specs.declared.operation.Variant.{Variant}
+use Rattle.fx_routines.specs.declared.table.Routine.TheVariants as routine
 use Rattle.mfx_arith.specs.Operations.{Takes, argument_types}
 use Rattle.mfx_arith.proofs.TypesTaken.{taken}
 use Rattle.fx_routines.specs.declared.operation.ScaledOp.{ScaledOp}
@@ -176,10 +177,10 @@ argument_earlier : (net : NetData) (i : ℕ) (first : WireNo) (ty : Option Ty) (
 argument_earlier net i first (Some ty) a h g = g.earlier
 argument_earlier net i first None a h g = below_along _ _ _ g h
 
--- a block of Mfx arithmetic: its operation is built and takes its types, its arguments are good and earlier net, and
+-- a block of Mfx arithmetic: its operation is built and takes its types, its arguments are good and earlier wires, and
 -- its count of places is one of the operation
 pub record IsGoodArith (net : NetData) (i : ℕ) (kind : Kind) (op : ArithOp) (v : Variant) (x y z : WireNo) (sh : ℕ) : Type 0 where
-  pub built : is_built op ≡ true
+  pub built : is_built (routine.Arith op) ≡ true
   pub taken : Takes op v
   pub first : IsGoodArgument net i x (slice_get (argument_types op v) 0) x
   pub second : IsGoodArgument net i x (slice_get (argument_types op v) 1) y
@@ -276,70 +277,3 @@ argument_of-valid net i b h lt e p = argument_of-good _ _ _ _ b (good_item-valid
 -- each output is a wire
 pub outs-valid : (net : NetData) → IsValid net → list_all (λ o. nat_lt o.0 (length net.wires)) net.outs ≡ true
 outs-valid net h = (conditions net h).outs_there
-
--- a wire has one part, its value
-pub roles_of-is : (item : Item) → roles_of item ≡ Value ∷ []
-roles_of-is (Input lo hi) = refl
-roles_of-is (Const value) = refl
-roles_of-is (OfBlock b) = refl
-
-pub has_role-value : (item : Item) → has_role Value (roles_of item) ≡ true
-has_role-value item = ap (has_role Value) (roles_of-is item)
-
--- the value of wire i
-abbrev pub value_part : ℕ → Part
-value_part i = record { wire = record { 0 = i }; role = Value }
-
-pub parts_from-cons : (i : ℕ) (w : Wire) (wires : List Wire) → parts_from i (w ∷ wires) ≡ value_part i ∷ parts_from (i + 1) wires
-parts_from-cons i w wires =
-    ap (λ roles. map (λ (r : Role). record { wire = record { 0 = i }; role = r }) roles ++ parts_from (i + 1) wires) (roles_of-is w.item)
-
--- there are as many parts as wires
-length-parts_from : (i : ℕ) (wires : List Wire) → length (parts_from i wires) ≡ length wires
-length-parts_from i [] = refl
-length-parts_from i (w ∷ wires) = rw (parts_from-cons i w wires) (ap suc (length-parts_from (i + 1) wires))
-
-pub length-parts_of : (wires : List Wire) → length (parts_of wires) ≡ length wires
-length-parts_of wires = length-parts_from 0 wires
-
--- part k is the value of wire k
-get_or-parts_from : (i k : ℕ) (wires : List Wire) → k < length wires → get_or (parts_from i wires) k no_part ≡ value_part (i + k)
-get_or-parts_from i k [] lt = absurd (omega arith)
-get_or-parts_from i zero (w ∷ wires) lt = rw (parts_from-cons i w wires) (ap value_part (omega arith))
-get_or-parts_from i (suc k) (w ∷ wires) lt =
-    let shorter : k < length wires = omega arith in
-    let e : (i + 1) + k ≡ i + suc k = omega arith in
-    rw (parts_from-cons i w wires) (get_or-parts_from (i + 1) k wires shorter ∙ ap value_part e)
-
-pub get_or-parts_of : (wires : List Wire) (k : ℕ) → k < length wires → get_or (parts_of wires) k no_part ≡ value_part k
-get_or-parts_of wires k lt = get_or-parts_from 0 k wires lt ∙ ap value_part (omega arith)
-
--- the value of wire k is part k
-place_in-here : (i : ℕ) (parts : List Part) → place_in i Value (value_part i ∷ parts) ≡ 0
-place_in-here i parts = ap (λ b. cond (b && true) 0 (suc (place_in i Value parts))) (eq-eqb i i refl)
-
-place_in-later : (i j : ℕ) (parts : List Part) → (i ≡ j → ⊥) → place_in j Value (value_part i ∷ parts) ≡ suc (place_in j Value parts)
-place_in-later i j parts differ = ap (λ b. cond (b && true) 0 (suc (place_in j Value parts))) (ne_eqb i j differ)
-
-place_in-parts_from : (i k : ℕ) (wires : List Wire) → k < length wires → place_in (i + k) Value (parts_from i wires) ≡ k
-place_in-parts_from i k [] lt = absurd (omega arith)
-place_in-parts_from i zero (w ∷ wires) lt =
-    let e : i + 0 ≡ i = omega arith in
-    ap (λ j. place_in j Value (parts_from i (w ∷ wires))) e ∙ rw (parts_from-cons i w wires) (place_in-here i _)
-place_in-parts_from i (suc k) (w ∷ wires) lt =
-    let shorter : k < length wires = omega arith in
-    let e : i + suc k ≡ (i + 1) + k = omega arith in
-    let differ : i ≡ i + suc k → ⊥ = omega arith in
-    rw (parts_from-cons i w wires)
-    (place_in-later i (i + suc k) _ differ ∙ ap suc (ap (λ j. place_in j Value (parts_from (i + 1) wires)) e ∙ place_in-parts_from (i + 1) k wires shorter))
-
-pub place_in-parts_of : (wires : List Wire) (k : ℕ) → k < length wires → place_in k Value (parts_of wires) ≡ k
-place_in-parts_of wires k lt =
-    let e : 0 + k ≡ k = omega arith in
-    rw e at (place_in-parts_from 0 k wires lt)
-
--- the number of the value of a wire is that of the wire
-pub part_number-is : (wires : List Wire) (k : ℕ) (role : Role) → k < length wires → part_number wires k role ≡ Some k
-unfolding part_number
-part_number-is wires k Value lt =
-    ap (λ b. if b then Some (place_in k Value (parts_of wires)) else None) (has_role-value (wire_at wires k).item) ∙ ap Some (place_in-parts_of wires k lt)

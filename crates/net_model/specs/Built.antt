@@ -1,12 +1,16 @@
--- What is built: the operations that a network can have as blocks, and the counts of places that they shift by.
+-- What is built: the routines that a network can have as blocks, and the counts of places that they shift by.
 use Rattle.std.specs.Prelude.{ℕ, Bool, true, false, ◌==◌, nat_le}
 use Rattle.fx_routines.specs.declared.operation.ArithOp.{ArithOp}
 use Rattle.fx_routines.specs.declared.operation.ArithOp.TheVariants.{Mod, MulShRight, DivShLeft}
+use Rattle.fx_routines.specs.declared.table.Routine.{Routine}
+use Rattle.fx_routines.specs.declared.table.Routine.TheVariants.{Arith, Scaled}
 
--- the operation is built as a block: all are but the remainder
-abbrev pub is_built : ArithOp → Bool
-is_built Mod = false
-is_built other = true
+-- the routine is built as a block: all of arithmetic are but the remainder, and all forms with binary points
+abbrev pub is_built : Routine → Bool
+is_built (Arith Mod) = false
+is_built (Arith other) = true
+is_built (Scaled op) = true
+is_built other = false
 
 -- the operation shifts by a count of places
 abbrev pub has_shift : ArithOp → Bool

@@ -37,8 +37,8 @@ is_number_of ty Truth = false
 
 -- networks can have the block's routine as a block
 abbrev pub is_built_block : Block → Bool
-is_built_block (Arith op v x y z shift) = is_built op
-is_built_block (Scaled op v x y) = true
+is_built_block (Arith op v x y z shift) = is_built (routine.Arith op)
+is_built_block (Scaled op v x y) = is_built (routine.Scaled op)
 
 -- the types of the wires that a block reads, in their order
 abbrev pub types_read : Block → List Ty

@@ -1,4 +1,4 @@
-// Which operations of Mfx arithmetic are built, and what routines are given.
+// Which routines are built, and what they are given.
 
 ghost use Rattle.std.specs.Prelude.{◌≡◌, slice_get};
 ghost use Rattle.mfx_arith.specs.Operations.{argument_types, unsigned_of};
@@ -6,6 +6,7 @@ ghost use Rattle.net_model.specs.Built.{has_shift, is_built, is_shift};
 ghost use Rattle.mfx_scaled.specs.Operations.{argument_types as scaled_types};
 
 use fx_core::Ty;
+use fx_routines::Routine;
 use mfx_arith::{ArithOp, Variant};
 use mfx_scaled::ScaledOp;
 
@@ -20,11 +21,16 @@ pub struct ArgumentTypes {
     pub z: Option<Ty>,
 }
 
-/// Whether the operation is built as a block.
-pub fn is_built(op: ArithOp) -> bool
-    ensures { result ≡ is_built op }
+/// Whether the routine is built as a block.
+pub fn is_built(routine: Routine) -> bool
+    ensures { result ≡ is_built routine }
 {
-    !matches!(op, ArithOp::Mod)
+    match routine {
+        Routine::Arith(op) => !matches!(op, ArithOp::Mod),
+        Routine::Scaled(_) => true,
+        Routine::Bit(_) | Routine::Interpolation(_) => false,
+        Routine::Filter(_) | Routine::Control(_) | Routine::Switch(_) => false,
+    }
 }
 
 /// The types of the arguments of an operation's routine.

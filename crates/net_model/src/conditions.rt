@@ -51,8 +51,8 @@ pub fn is_built_block(block: Block) -> bool
     ensures { result ≡ is_built_block block }
 {
     match block {
-        Block::Arith { op, .. } => is_built(op),
-        Block::Scaled { .. } => true,
+        Block::Arith { op, .. } => is_built(Routine::Arith(op)),
+        Block::Scaled { op, .. } => is_built(Routine::Scaled(op)),
     }
 }
 

@@ -11,9 +11,9 @@ use Rattle.text_words.specs.Steps.{◌>>=◌, demand}
 use Rattle.fx_core.specs.declared.word_type.Ty.{Ty}
 use Rattle.fx_routines.specs.declared.operation.ArithOp.{ArithOp}
 use Rattle.fx_routines.specs.declared.operation.ArithOp.TheVariants.{MulShRight, DivShLeft}
-use Rattle.fx_routines.specs.declared.operation.Variant.{Variant}
+use Rattle.fx_routines.specs.declared.operation.Types.{Types}
 use Rattle.fx_routines.specs.declared.table.Routine.{Routine as Named}
-use Rattle.fx_routines.specs.declared.table.Routine.TheVariants.{Arith as NamedArith, Scaled as NamedScaled, NotBuilt as Unbuilt}
+use Rattle.fx_routines.specs.declared.table.Routine.TheVariants.{Arith as NamedArith, Scaled as NamedScaled}
 use Rattle.fx_routines.specs.Reading.{named}
 use Rattle.net_model.specs.declared.network.NetKind.{NetKind}
 use Rattle.net_model.specs.declared.network.NetKind.TheVariants.{BadLine, BadName, Repeated, BadType, UnknownRoutine, NotBuilt, BadCount, UnknownName, LaterWire, TypeDiffers, OutOfRange, TooMany}
@@ -31,10 +31,10 @@ use Rattle.net_text.specs.declared.routine_word.Routine.TheVariants.{ArithOf, Sc
 use Rattle.net_text.specs.declared.routine_word.Arguments.{Arguments}
 use Rattle.net_text.specs.declared.line_forms.Content.{Content}
 use Rattle.net_model.specs.Wires.{NetData, place_of}
-use Rattle.net_model.specs.Built.{has_shift, is_shift}
+use Rattle.net_model.specs.Built.{has_shift, is_built, is_shift}
 use Rattle.net_model.specs.Validity.{is_among, is_good_kind, kind_holds, has_good_numbers, agrees, is_earlier, type_read, is_built_item, item_reads_earlier, item_agrees, item_in_range}
 use Rattle.net_text.specs.TypeWords.{ty_of, ty_len, one_digit, two_digits, point_of_word, number_kind_of, kind_of}
-use Rattle.net_text.specs.RoutineWords.{is_built_routine, built_at, routine_at, arity_of, block_of}
+use Rattle.net_text.specs.RoutineWords.{at_types, routine_at, arity_of, block_of}
 use Rattle.net_text.specs.Forms.{keyword_of, is_wire, are_known, axis_passes, is_type, is_narrow, argument_at, arguments_of, shift_at, shift_of, words_wanted, wire_above, fresh, has_room, number_at, input_of, const_of, kind_at, agreed, in_line, const_line, wire_line, unbuilt_line, line_of, is_known, is_output, out_line, defining_line}
 
 -- ---- tests
@@ -155,19 +155,29 @@ kind_good word kind h =
 
 -- ---- routines
 
--- the routine that was found is built
-if_built_gives : (r routine : Routine) (built : Bool) → is_built_routine r ≡ built → ◌≡◌ {A = Result Routine NetKind} (cond built (Ok r) (Err NotBuilt)) (Ok routine) → is_built_routine routine ≡ true
-if_built_gives r routine true e h = let same : r ≡ routine = cc in subst (λ s. is_built_routine s ≡ true) same e
-if_built_gives r routine false e h = cc
+-- networks can have the routine as a block
+abbrev is_built_routine : Routine → Bool
+is_built_routine (ArithOf op v) = is_built (NamedArith op)
+is_built_routine (ScaledOf op v) = is_built (NamedScaled op)
 
-built_at_gives : (named : Named) (v : Variant) (routine : Routine) → built_at named v ≡ Ok routine → is_built_routine routine ≡ true
-built_at_gives (NamedArith op) v routine h = if_built_gives (ArithOf op v) routine (is_built_routine (ArithOf op v)) refl h
-built_at_gives (NamedScaled op) v routine h = if_built_gives (ScaledOf op v) routine (is_built_routine (ScaledOf op v)) refl h
-built_at_gives Unbuilt v routine h = cc
+-- at its types it is built as before
+at_types_built : (found : Named) (types : Types) (routine : Routine) → is_built found ≡ true → at_types found types ≡ Ok routine
+    → is_built_routine routine ≡ true
+at_types_built (NamedArith op) types routine built h =
+    let same : ArithOf op types ≡ routine = cc in subst (λ r. is_built_routine r ≡ true) same built
+at_types_built (NamedScaled op) types routine built h =
+    let same : ScaledOf op types ≡ routine = cc in subst (λ r. is_built_routine r ≡ true) same built
+at_types_built other types routine built h = cc
 
-built_tests : (found : Result (Named × Variant) NetKind) (routine : Routine) → (found >>= λ r. built_at r.0 r.1) ≡ Ok routine → is_built_routine routine ≡ true
+built_test : (found : Named) (types : Types) (routine : Routine) (built : Bool) → is_built found ≡ built
+    → (demand built NotBuilt >>= λ _. at_types found types) ≡ Ok routine → is_built_routine routine ≡ true
+built_test found types routine true e h = at_types_built found types routine e h
+built_test found types routine false e h = cc
+
+built_tests : (found : Result (Named × Types) NetKind) (routine : Routine)
+    → (found >>= λ r. demand (is_built r.0) NotBuilt >>= λ _. at_types r.0 r.1) ≡ Ok routine → is_built_routine routine ≡ true
 built_tests (Err fault) routine h = cc
-built_tests (Ok r) routine h = built_at_gives r.0 r.1 routine h
+built_tests (Ok r) routine h = built_test r.0 r.1 routine (is_built r.0) refl h
 
 -- a name is read as a routine that is built
 routine_built : (word : List ℕ) (routine : Routine) → routine_at word ≡ Ok routine → is_built_routine routine ≡ true
@@ -356,7 +366,7 @@ block_good net (ArithOf op v) kind given sh built g typed numbers =
 block_good net (ScaledOf op v) kind given sh built g typed numbers =
     let b = block_of (ScaledOf op v) given sh in
     record {
-      built = refl;
+      built = built;
       earlier = true_if_both _ _ (true_if_both _ _ (earlier_below _ given.x.0 (type_read b 0) g.x_below) (earlier_below _ given.y.0 (type_read b 1) g.y_below)) (earlier_below _ given.x.0 (type_read b 2) g.x_below);
       agreed = typed;
       in_range = refl;

@@ -1,10 +1,10 @@
 -- The routines of a network's text.
-use Rattle.std.specs.Prelude.{ℕ, Bool, true, false, List, length, ok_or, Result, Ok, Err, if◌then◌else◌}
-use Rattle.text_words.specs.Steps.{◌>>=◌}
+use Rattle.std.specs.Prelude.{ℕ, Bool, false, List, length, ok_or, Result, Ok, Err}
+use Rattle.text_words.specs.Steps.{◌>>=◌, demand}
 use Rattle.fx_core.specs.declared.word_type.Ty.{Ty}
 use Rattle.fx_routines.specs.declared.operation.Types.{Types}
 use Rattle.fx_routines.specs.declared.table.Routine.{Routine as Named}
-use Rattle.fx_routines.specs.declared.table.Routine.TheVariants.{Arith as NamedArith, Scaled as NamedScaled, NotBuilt as Unbuilt}
+use Rattle.fx_routines.specs.declared.table.Routine.TheVariants.{Arith as NamedArith, Scaled as NamedScaled}
 use Rattle.fx_routines.specs.Reading.{named}
 use Rattle.mfx_arith.specs.Operations.{argument_types}
 use Rattle.mfx_scaled.specs.Operations.{argument_types as scaled_types}
@@ -17,26 +17,18 @@ use Rattle.net_text.specs.declared.routine_word.Routine.{Routine}
 use Rattle.net_text.specs.declared.routine_word.Routine.TheVariants.{ArithOf, ScaledOf}
 use Rattle.net_text.specs.declared.routine_word.Arguments.{Arguments}
 
--- networks can have the routine as a block
-abbrev pub is_built_routine : Routine → Bool
-is_built_routine (ArithOf op v) = is_built op
-is_built_routine (ScaledOf op v) = true
-
--- a routine of networks; the others aren't built
-abbrev pub if_built : Routine → Result Routine NetKind
-if_built routine = if is_built_routine routine then Ok routine else Err NotBuilt
-
--- a routine at its types
-abbrev pub built_at : Named → Types → Result Routine NetKind
-built_at (NamedArith op) types = if_built (ArithOf op types)
-built_at (NamedScaled op) types = if_built (ScaledOf op types)
-built_at Unbuilt types = Err NotBuilt
+-- a routine of a family that blocks have, at its types
+abbrev pub at_types : Named → Types → Result Routine NetKind
+at_types (NamedArith op) types = Ok (ArithOf op types)
+at_types (NamedScaled op) types = Ok (ScaledOf op types)
+at_types other types = Err NotBuilt
 
 -- the routine of a name: no routine has the name, or it isn't built
 unfoldable pub routine_at : List ℕ → Result Routine NetKind
 routine_at word = do
   routine ← ok_or (named word) UnknownRoutine
-  built_at routine.0 routine.1
+  _ ← demand (is_built routine.0) NotBuilt
+  at_types routine.0 routine.1
 
 -- the types of the wires that a routine reads, in their order
 abbrev pub types_of : Routine → List Ty

@@ -1,8 +1,8 @@
 // Reads the names of routines.
 ghost use Rattle.std.specs.Prelude.{◌≡◌, ◌≤◌, IsTrue, slice_get};
-ghost use Rattle.fx_routines.specs.Rows.{is_built};
+ghost use Rattle.fx_routines.specs.Rows.{has_variant};
 ghost use Rattle.fx_routines.specs.Variants.{HasOneWidth};
-ghost use Rattle.net_text.specs.RoutineWords.{arity_of, block_of, built_at, if_built, is_built_routine, is_shifting, routine_at, types_of};
+ghost use Rattle.net_text.specs.RoutineWords.{arity_of, at_types, block_of, is_shifting, routine_at, types_of};
 
 use fx_routines::{Routine as Named, Types, routine_named};
 use mfx_arith::{ArithOp, Variant};
@@ -10,6 +10,7 @@ use mfx_scaled::ScaledOp;
 use net_model::{
     ArgumentTypes, Block, NetKind, WireNo, argument_types, has_shift, is_built, scaled_types,
 };
+use text_words::demand;
 
 /// A routine: what it computes, and its types.
 #[derive(Clone, Copy)]
@@ -31,39 +32,22 @@ pub struct Arguments {
 pub fn routine_at(word: &[u8]) -> Result<Routine, NetKind>
     ensures { result ≡ routine_at word.now }
 {
-    match routine_named(word) {
-        Some((routine, types)) => built_at(routine, types),
-        None => Err(NetKind::UnknownRoutine),
-    }
+    let Some((routine, types)) = routine_named(word) else {
+        return Err(NetKind::UnknownRoutine);
+    };
+    demand!(is_built(routine), NetKind::NotBuilt);
+    at_types(routine, types)
 }
 
-fn built_at(routine: Named, types: Types) -> Result<Routine, NetKind>
-    requires { IsTrue (is_built routine) → HasOneWidth types }
-    ensures { result ≡ built_at routine types }
+// The routine at its types. Networks have no other family.
+fn at_types(routine: Named, types: Types) -> Result<Routine, NetKind>
+    requires { IsTrue (has_variant routine) → HasOneWidth types }
+    ensures { result ≡ at_types routine types }
 {
     match routine {
-        Named::Arith(op) => if_built(Routine::ArithOf(op, Variant::of(types))),
-        Named::Scaled(op) => if_built(Routine::ScaledOf(op, Variant::of(types))),
-        Named::NotBuilt => Err(NetKind::NotBuilt),
-    }
-}
-
-fn if_built(routine: Routine) -> Result<Routine, NetKind>
-    ensures { result ≡ if_built routine }
-{
-    if is_built_routine(&routine) {
-        Ok(routine)
-    } else {
-        Err(NetKind::NotBuilt)
-    }
-}
-
-fn is_built_routine(routine: &Routine) -> bool
-    ensures { result ≡ is_built_routine routine.now }
-{
-    match routine {
-        Routine::ArithOf(op, _) => is_built(*op),
-        Routine::ScaledOf(_, _) => true,
+        Named::Arith(op) => Ok(Routine::ArithOf(op, Variant::of(types))),
+        Named::Scaled(op) => Ok(Routine::ScaledOf(op, Variant::of(types))),
+        _ => Err(NetKind::NotBuilt),
     }
 }
 

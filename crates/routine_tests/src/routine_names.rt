@@ -1,7 +1,10 @@
 // `fx_routines`: names of all four libraries, and words that are no names. The end-to-end suite has more of both.
 
 use fx_core::Ty;
-use fx_routines::{ArithOp, Routine, ScaledOp, Types, push_name, routine_named, takes};
+use fx_routines::{
+    ArithOp, BitOp, InterpolationOp, MapOp, Routine, ScaledOp, SwitchOp, Types, push_name,
+    routine_named, takes,
+};
 use std::alloc::{AllocError, Global};
 use std::test::Fail;
 
@@ -32,7 +35,7 @@ const WORDS: [(&[u8], Option<(Routine, Types)>); 8] = [
     (
         b"Bfx_CopyBit_u32u8u32u8_u32",
         Some((
-            Routine::NotBuilt,
+            Routine::Bit(BitOp::CopyBit),
             Types {
                 x: Ty::U32,
                 y: Ty::U32,
@@ -43,7 +46,7 @@ const WORDS: [(&[u8], Option<(Routine, Types)>); 8] = [
     (
         b"Ifx_IntIpoMap_u8s16_s8",
         Some((
-            Routine::NotBuilt,
+            Routine::Interpolation(InterpolationOp::IntMap(MapOp::Ipo)),
             Types {
                 x: Ty::U8,
                 y: Ty::S16,
@@ -54,7 +57,7 @@ const WORDS: [(&[u8], Option<(Routine, Types)>); 8] = [
     (
         b"Efx_Debounce_bool_bool",
         Some((
-            Routine::NotBuilt,
+            Routine::Switch(SwitchOp::Debounce),
             Types {
                 x: Ty::U8,
                 y: Ty::U8,
@@ -72,9 +75,8 @@ fn named(word: &[u8]) -> Option<(Routine, Types)> {
     routine_named(word)
 }
 
-// The name of a routine of arithmetic, or nothing where it has no such types.
-fn name_of(alloc: Global, op: ArithOp, types: Types) -> Result<Vec<u8>, AllocError> {
-    let routine = Routine::Arith(op);
+// The name of a routine, or nothing where it has no such types.
+fn name_of(alloc: Global, routine: Routine, types: Types) -> Result<Vec<u8>, AllocError> {
     let mut name = Vec::new(alloc);
     if takes(routine, types) {
         push_name(&mut name, routine, types)?;
@@ -89,13 +91,13 @@ fn names_of_all_libraries(rt: HostRuntime) -> Result<(), Fail> {
     }
     let name = name_of(
         rt.alloc(),
-        ArithOp::MulDiv,
+        Routine::Interpolation(InterpolationOp::IntMap(MapOp::LkUp)),
         Types {
             x: Ty::S16,
-            y: Ty::U16,
+            y: Ty::U8,
             o: Ty::S8,
         },
     )?;
-    assert_eq!(rt; name.as_slice(), b"Mfx_MulDiv_s16u16u16_s8".as_slice());
+    assert_eq!(rt; name.as_slice(), b"Ifx_IntLkUpMap_s16u8_s8".as_slice());
     Ok(())
 }

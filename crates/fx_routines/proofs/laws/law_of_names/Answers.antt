@@ -13,4 +13,4 @@ pub returns-clause-distinct : goal.returns-clause-distinct
 returns-clause-distinct c = distinct_names
 
 pub returns-clause-taken : goal.returns-clause-taken
-returns-clause-taken c routine built = taken_names routine
+returns-clause-taken c = taken_names
