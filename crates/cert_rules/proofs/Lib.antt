@@ -1,15 +1,2 @@
-pub mod Examples
-pub mod EntryFacts
-pub mod Findings
-pub mod RuleFacts
-pub mod PartsRead
-pub mod RuleSoundness
-pub mod RulesLaw
-pub mod UnsignedSteps
-pub mod Places
-pub mod AcceptedEntries
-pub mod TheoremProof
-pub mod AcceptanceLaws
-pub mod ArgumentExamples
-pub mod ArgumentSearch
-pub mod ArgumentLaw
+pub mod Readings
+pub mod BlockRules

@@ -15,7 +15,7 @@ use Rattle.cert_rules.specs.Rules.{is_allowed, rule_of}
 -- an entry is allowed: its bounds are allowed for the part, its range isn't empty and its error isn't negative
 abbrev pub is_allowed_entry : NetData → Part → Bounds → Bool
 is_allowed_entry net part b =
-    is_allowed (wire_at net.wires part.wire.0).kind part.role b && int_le b.lo b.hi && int_le (pos 0) b.err
+    is_allowed net part b && int_le b.lo b.hi && int_le (pos 0) b.err
 
 -- the value from which a part starts, where it starts from one: no part of a built block does
 abbrev pub start_of : Item → Role → Option ℤ
@@ -38,7 +38,7 @@ lies_inside (Some r) entry = int_le entry.lo r.lo && int_le r.hi entry.hi && int
 abbrev pub is_inductive_entry : NetData → List Bounds → Part → Bounds → Bool
 is_inductive_entry net entries part b =
     starts_inside (start_of (wire_at net.wires part.wire.0).item part.role) b
-    && lies_inside (rule_of net part.wire.0 part.role (entry_of net entries)) b
+    && lies_inside (rule_of net part (entry_of net entries)) b
 
 -- part number k of a network, from 0
 abbrev pub part_at : NetData → ℕ → Part

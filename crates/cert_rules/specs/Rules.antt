@@ -1,5 +1,5 @@
--- The rule of each part: the bounds that it gets from the bounds of others.
-use Rattle.std.specs.Prelude.{ℕ, ◌^◌, Bool, false, not, ◌&&◌, ◌||◌, List, ℤ, pos, int_le, int_lt, Option, Some, None, if◌then◌else◌}
+-- The rule of each part: what it reads, and the bounds that it gives from those of what it reads.
+use Rattle.std.specs.Prelude.{ℕ, ◌^◌, Bool, false, ◌&&◌, List, [], ℤ, pos, int_le, int_lt, Option, Some, None, if◌then◌else◌}
 use Rattle.net_model.specs.declared.wires.Kind.{Kind}
 use Rattle.net_model.specs.declared.wires.Block.{Block}
 use Rattle.net_model.specs.declared.wires.Block.TheVariants.{Arith, Scaled}
@@ -7,72 +7,87 @@ use Rattle.net_model.specs.declared.wires.Item.{Item}
 use Rattle.net_model.specs.declared.wires.Item.TheVariants.{Input, Const, Block as OfBlock}
 use Rattle.net_model.specs.declared.wires.Role.{Role}
 use Rattle.net_model.specs.declared.wires.Role.TheVariants.{Value}
+use Rattle.net_model.specs.declared.wires.Part.{Part}
 use Rattle.net_model.specs.Wires.{NetData, wire_at, kind_least, kind_greatest, argument_of}
 use Rattle.net_meaning.specs.Blocks.{points_of}
-use Rattle.mfx_arith.specs.Operations.{is_smooth_operation}
 use Rattle.part_rules.specs.declared.bounds.Bounds.{Bounds}
-use Rattle.mfx_rules.specs.ArithRules.{arith_may_divide_by_zero, arith_bounds}
-use Rattle.mfx_rules.specs.ScaledRules.{scaled_may_divide_by_zero, scaled_bounds}
+use Rattle.part_rules.specs.PartRules.{PartRule, renamed, given_by}
+use Rattle.mfx_rules.specs.OperationRules.{arith_rule, scaled_rule}
 
--- the bounds of a block's arguments, by their number, where `known` has those of each wire
-abbrev pub arguments_of : Block → (ℕ → Bounds) → ℕ → Bounds
-arguments_of b known p = known (argument_of b p)
+-- ---- which bounds a part may have
+
+-- the least value of a part, by its role and the kind of its wire
+abbrev pub least_by_role : Kind → Role → ℤ
+least_by_role kind Value = kind_least kind
+
+-- the greatest one
+abbrev pub greatest_by_role : Kind → Role → ℤ
+greatest_by_role kind Value = kind_greatest kind
+
+-- the kind of the wire on which a part stands
+abbrev pub kind_of_part : NetData → Part → Kind
+kind_of_part net part = (wire_at net.wires part.wire.0).kind
 
 -- the least value of a part
-abbrev pub part_least : Kind → Role → ℤ
-part_least kind Value = kind_least kind
+abbrev pub least_of_part : NetData → Part → ℤ
+least_of_part net part = least_by_role (kind_of_part net part) part.role
 
 -- the greatest value of a part
-abbrev pub part_greatest : Kind → Role → ℤ
-part_greatest kind Value = kind_greatest kind
+abbrev pub greatest_of_part : NetData → Part → ℤ
+greatest_of_part net part = greatest_by_role (kind_of_part net part) part.role
 
 -- the number that the error of a part has to be below
-abbrev pub error_cap : Role → ℤ
-error_cap Value = pos (2 ^ 40)
+abbrev pub cap_of_role : Role → ℤ
+cap_of_role Value = pos (2 ^ 40)
 
 -- a number lies between the ends of a part
-abbrev pub is_between_ends : Kind → Role → ℤ → Bool
-is_between_ends kind role n = int_le (part_least kind role) n && int_le n (part_greatest kind role)
+abbrev pub is_between_ends : NetData → Part → ℤ → Bool
+is_between_ends net part n = int_le (least_of_part net part) n && int_le n (greatest_of_part net part)
 
 -- bounds are allowed for a part where both ends of their range lie between the part's ends, and their error is below its cap
-unfoldable pub is_allowed : Kind → Role → Bounds → Bool
-is_allowed kind role b = is_between_ends kind role b.lo && is_between_ends kind role b.hi && int_lt b.err (error_cap role)
+unfoldable pub is_allowed : NetData → Part → Bounds → Bool
+is_allowed net part b =
+    is_between_ends net part b.lo && is_between_ends net part b.hi && int_lt b.err (cap_of_role part.role)
 
--- whether there is no rule for a block's value: its operation isn't smooth, or its divisor may be 0
-abbrev pub block_has_no_rule : Block → (ℕ → Bounds) → Bool
-block_has_no_rule (Arith op v x y z shift) known =
-    not (is_smooth_operation op) || arith_may_divide_by_zero op (arguments_of (Arith op v x y z shift) known)
-block_has_no_rule (Scaled op v x y) known = scaled_may_divide_by_zero op (arguments_of (Scaled op v x y) known)
+-- ---- the rules
 
--- the same of a wire's value
-abbrev pub has_no_rule : Item → (ℕ → Bounds) → Bool
-has_no_rule (Input lo hi) known = false
-has_no_rule (Const value) known = false
-has_no_rule (OfBlock b) known = block_has_no_rule b known
+-- the value of argument number p of a block, as a part
+abbrev pub argument_part : Block → ℕ → Part
+argument_part b p = record { wire = record { 0 = argument_of b p }; role = Value }
 
--- the bounds of a wire's value, from those of each wire's value, before it is asked whether they are allowed
-unfoldable pub proposed : NetData → Kind → Item → (ℕ → Bounds) → Bounds
-proposed net kind (Input lo hi) known = record { lo = lo; hi = hi; err = pos 0 }
-proposed net kind (Const value) known = record { lo = value; hi = value; err = pos 0 }
-proposed net kind (OfBlock (Arith op v x y z shift)) known = arith_bounds op shift (arguments_of (Arith op v x y z shift) known)
-proposed net kind (OfBlock (Scaled op v x y)) known =
-    let b = Scaled op v x y in scaled_bounds op (points_of net kind b) (arguments_of b known)
+-- the rule of a part of a block on a wire of a kind, one line for each part of a family's blocks
+unfoldable pub block_rule : NetData → Kind → Block → Role → PartRule Part
+block_rule net kind (Arith op v x y z shift) Value =
+    renamed (argument_part (Arith op v x y z shift)) (arith_rule op shift)
+block_rule net kind (Scaled op v x y) Value =
+    let b = Scaled op v x y in renamed (argument_part b) (scaled_rule op (points_of net kind b))
 
--- the same; none where there is no rule for the wire's value
-abbrev pub bounds_of : NetData → Kind → Item → (ℕ → Bounds) → Option Bounds
-bounds_of net kind item known = if has_no_rule item known then None else Some (proposed net kind item known)
+-- a rule that reads nothing: the range from lo to hi, without an error
+abbrev pub fixed_rule : ℤ → ℤ → PartRule Part
+fixed_rule lo hi = record { reads = []; fails = λ given. false; bounds = λ given. record { lo = lo; hi = hi; err = pos 0 } }
+
+-- the rule of a part of a wire with this kind and item
+abbrev pub item_rule : NetData → Kind → Item → Role → PartRule Part
+item_rule net kind (Input lo hi) Value = fixed_rule lo hi
+item_rule net kind (Const value) Value = fixed_rule value value
+item_rule net kind (OfBlock b) role = block_rule net kind b role
+
+-- the rule of a part
+abbrev pub part_rule : NetData → Part → PartRule Part
+part_rule net part = let w = wire_at net.wires part.wire.0 in item_rule net w.kind w.item part.role
+
+-- ---- what they give
 
 -- bounds, where they are allowed
-abbrev pub if_allowed : Kind → Role → Bounds → Option Bounds
-if_allowed kind role b = if is_allowed kind role b then Some b else None
+abbrev pub if_allowed : NetData → Part → Bounds → Option Bounds
+if_allowed net part b = if is_allowed net part b then Some b else None
 
 -- what is allowed of bounds, where there are any
-abbrev pub allowed_of : Kind → Role → Option Bounds → Option Bounds
-allowed_of kind role None = None
-allowed_of kind role (Some b) = if_allowed kind role b
+abbrev pub allowed_of : NetData → Part → Option Bounds → Option Bounds
+allowed_of net part None = None
+allowed_of net part (Some b) = if_allowed net part b
 
--- the rule of a part of wire i: its bounds, from those of all parts (`all k r` are those of part r of wire k); none
--- where there is no rule for it, or where the bounds aren't allowed
-unfoldable pub rule_of : NetData → ℕ → Role → (ℕ → Role → Bounds) → Option Bounds
-rule_of net i Value all =
-    let w = wire_at net.wires i in allowed_of w.kind Value (bounds_of net w.kind w.item (λ k. all k Value))
+-- the bounds that a part gets by its rule, from those of all parts; none where there is no rule for it, as where a divisor may
+-- be 0, or where the bounds aren't allowed
+unfoldable pub rule_of : NetData → Part → (Part → Bounds) → Option Bounds
+rule_of net part known = allowed_of net part (given_by (part_rule net part) known)

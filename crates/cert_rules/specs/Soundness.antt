@@ -15,8 +15,8 @@ use Rattle.net_meaning.specs.Promises.{KeepsRange, ItemDivides}
 use Rattle.part_rules.specs.declared.bounds.Bounds.{Bounds}
 use Rattle.part_rules.specs.Within.{IsWithin}
 use Rattle.cert_rules.specs.Certificates.{entry_of, held_by}
-use Rattle.cert_rules.specs.Acceptance.{AreAllowed, entry_at, part_at}
-use Rattle.cert_rules.specs.Arguments.{reads_ago, rule_by}
+use Rattle.cert_rules.specs.Acceptance.{entry_at, is_allowed_at, part_at}
+use Rattle.cert_rules.specs.Arguments.{reads_ago, reads_at, rule_by}
 
 -- what a cell has of a part of its wire before saturation
 abbrev pub raw_by : {V : Type 0} → Role → Cell V → V
@@ -63,13 +63,17 @@ pub record KeepsBounds (net : NetData) (p : ℕ) (rows : List (List ℤ)) (m : �
   -- the machine's value before saturation lies in the range, and within the error of the exact value
   pub within : IsWithin bounds (machine_raw net p rows m) (exact_value net p rows e)
 
--- the rules are sound: for each part of a valid network, from entries of all parts that are allowed, where the rule gives
--- bounds and all that it reads is within its entry, the part keeps to these bounds
+-- the entry of each part that the rule of part number p reads is allowed
+abbrev pub AreAllowedFor : NetData → List Bounds → ℕ → Type 0
+AreAllowedFor net entries p =
+    (k : ℕ) → k < length (parts_of net.wires) → IsTrue (reads_at net p k) → IsTrue (is_allowed_at net entries k)
+
+-- the rules are sound: for each part of a valid network, from entries of which each that its rule reads is allowed, where the
+-- rule gives bounds and all that it reads is within its entry, the part keeps to these bounds
 abbrev pub RulesAreSound : Type 0
 RulesAreSound =
     (net : NetData) → IsValid net →
-    (entries : List Bounds) → length entries ≡ length (parts_of net.wires) → AreAllowed net entries →
-    (p : ℕ) → p < length (parts_of net.wires) →
+    (entries : List Bounds) (p : ℕ) → p < length (parts_of net.wires) → AreAllowedFor net entries p →
     (rows : List (List ℤ)) (m : ℕ → ℕ → Cell ℤ) (e : ℕ → ℕ → Cell Fraction) →
     KeepsInput net p rows → IsGiven net entries p m e →
     (bounds : Bounds) → rule_by net p (entry_of net entries) ≡ Some bounds → KeepsBounds net p rows m e bounds

@@ -1,4 +1,4 @@
-// The operations of the routines, and the types of one.
+// The operations of arithmetic and of the forms with binary points, and the types of a routine.
 
 ghost use Rattle.std.specs.Prelude.{◌≡◌, ◌↔◌, IfSome, IsSome};
 ghost use Rattle.fx_core.specs.Types.{width_of};

@@ -15,4 +15,7 @@ pub mod ScaledSoundnessProof
 pub mod ScaledArguments
 pub mod ScaledCornerHulls
 pub mod ScaledCornerValues
-pub mod SoundRules
+pub mod ArithGrows
+pub mod ScaledGrows
+pub mod KeptRules
+pub mod RuleExamples

@@ -1,6 +1,6 @@
 -- The rule of each operation of Mfx arithmetic alone: its bounds, from those of its arguments. `given p` are the bounds of
 -- argument number p, from 0, and `shift` is the operation's count of places. What isn't smooth, a remainder, has no rule.
-use Rattle.std.specs.Prelude.{ℕ, Bool, false, List, [], ◌∷◌, ◌++◌, map, get_or, ℤ, pos, ◌+ℤ◌, ◌*ℤ◌}
+use Rattle.std.specs.Prelude.{ℕ, Bool, false, List, [], ◌∷◌, ◌++◌, ℤ, pos, ◌+ℤ◌, ◌*ℤ◌}
 use Rattle.std.specs.Int.{int_max}
 use Rattle.fx_fraction.specs.Fraction.{whole}
 use Rattle.fx_core.specs.declared.quotient.Mode.TheVariants.{Zero}
@@ -11,7 +11,7 @@ use Rattle.fx_routines.specs.declared.operation.ArithOp.TheVariants.{Add, Sub, A
 use Rattle.mfx_arith.specs.Formulas.{arith_formula}
 use Rattle.mfx_arith.specs.Operations.{arith_arity}
 use Rattle.part_rules.specs.declared.bounds.Bounds.{Bounds}
-use Rattle.part_rules.specs.Ranges.{given_bounds, corners_of, least_among, greatest_among, zero_between}
+use Rattle.part_rules.specs.Ranges.{corner_values, least_among, greatest_among, zero_between}
 use Rattle.part_rules.specs.Errors.{magnitude, may_be_zero, product_error, shifted_error, quotient_error}
 
 -- ---- ranges
@@ -22,7 +22,7 @@ arith_rounded op shift m = rounded_fraction Zero (arith_formula op shift (λ p. 
 
 -- an operation's values at all corners of its arguments' ranges
 abbrev pub arith_corner_values : ArithOp → ℕ → (ℕ → Bounds) → List ℤ
-arith_corner_values op shift given = map (λ corner. arith_rounded op shift (λ p. get_or corner p (pos 0))) (corners_of (given_bounds given 0 (arith_arity op)))
+arith_corner_values op shift given = corner_values (arith_rounded op shift) (arith_arity op) given
 
 -- the least value of an absolute value, where what stands inside it takes 0 or both signs at the corners
 abbrev pub turning_values : ArithOp → (ℕ → Bounds) → List ℤ

@@ -10,7 +10,7 @@ use Rattle.mfx_scaled.specs.declared.binary_points.Points.{Points}
 use Rattle.mfx_scaled.specs.Formulas.{scaled_formula, quotient_of as scaled_quotient}
 use Rattle.mfx_scaled.specs.Operations.{scaled_arity}
 use Rattle.part_rules.specs.declared.bounds.Bounds.{Bounds}
-use Rattle.part_rules.specs.PartRules.{PartRule, PartMeaning, IsSound, arguments_read, bounds_at}
+use Rattle.part_rules.specs.PartRules.{PartRule, PartMeaning, KeepsRule, arguments_read, bounds_at}
 use Rattle.mfx_rules.specs.ArithRules.{arith_bounds, arith_may_divide_by_zero, arith_rounded}
 use Rattle.mfx_rules.specs.ArithSoundness.{HasUnsignedStep}
 use Rattle.mfx_rules.specs.ScaledRules.{scaled_bounds, scaled_may_divide_by_zero, scaled_rounded}
@@ -55,10 +55,10 @@ scaled_meaning op points = record {
 abbrev pub FitForm : List Bounds → Type 0
 FitForm given = Unit {0}
 
--- the rule of each operation of arithmetic is sound
-abbrev pub OperationsAreSound : Type 0
-OperationsAreSound = (op : ArithOp) (shift : ℕ) → IsSound (arith_rule op shift) (arith_meaning op shift) (FitOperation op)
+-- each operation of arithmetic keeps its rule
+abbrev pub OperationsKeepRules : Type 0
+OperationsKeepRules = (op : ArithOp) (shift : ℕ) → KeepsRule (arith_rule op shift) (arith_meaning op shift) (FitOperation op)
 
--- the rule of each form with binary points is sound
-abbrev pub FormsAreSound : Type 0
-FormsAreSound = (op : ScaledOp) (points : Points) → IsSound (scaled_rule op points) (scaled_meaning op points) FitForm
+-- each form with binary points keeps its rule
+abbrev pub FormsKeepRules : Type 0
+FormsKeepRules = (op : ScaledOp) (points : Points) → KeepsRule (scaled_rule op points) (scaled_meaning op points) FitForm

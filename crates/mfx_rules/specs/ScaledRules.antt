@@ -1,6 +1,6 @@
 -- The rule of each form with binary points alone: its bounds, from those of its arguments. `given p` are the bounds of
 -- argument number p, from 0, and `points` the binary points of the first input, the second input and the output.
-use Rattle.std.specs.Prelude.{ℕ, ◌+◌, ◌-◌, max, Bool, false, List, [], ◌++◌, map, get_or, ℤ, pos, ◌+ℤ◌, ◌*ℤ◌}
+use Rattle.std.specs.Prelude.{ℕ, ◌+◌, ◌-◌, max, Bool, false, List, [], ◌++◌, ℤ, ◌+ℤ◌, ◌*ℤ◌}
 use Rattle.fx_fraction.specs.Fraction.{whole}
 use Rattle.fx_core.specs.declared.quotient.Mode.TheVariants.{Zero}
 use Rattle.fx_core.specs.Rounding.{power}
@@ -12,7 +12,7 @@ use Rattle.mfx_scaled.specs.Counts.{raised}
 use Rattle.mfx_scaled.specs.Formulas.{scaled_formula}
 use Rattle.mfx_scaled.specs.Operations.{scaled_arity}
 use Rattle.part_rules.specs.declared.bounds.Bounds.{Bounds}
-use Rattle.part_rules.specs.Ranges.{given_bounds, corners_of, least_among, greatest_among, zero_between}
+use Rattle.part_rules.specs.Ranges.{corner_values, least_among, greatest_among, zero_between}
 use Rattle.part_rules.specs.Errors.{magnitude, may_be_zero, product_error, quotient_error, shifted_error}
 
 -- ---- ranges
@@ -23,7 +23,7 @@ scaled_rounded op points m = rounded_fraction Zero (scaled_formula op points (λ
 
 -- a form's values at all corners of its arguments' ranges
 abbrev pub scaled_corner_values : ScaledOp → Points → (ℕ → Bounds) → List ℤ
-scaled_corner_values op points given = map (λ corner. scaled_rounded op points (λ p. get_or corner p (pos 0))) (corners_of (given_bounds given 0 (scaled_arity op)))
+scaled_corner_values op points given = corner_values (scaled_rounded op points) (scaled_arity op) given
 
 -- the inputs' points, with the higher of them for the output: there a difference is a whole number
 abbrev pub level_points : Points → Points

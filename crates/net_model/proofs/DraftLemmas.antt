@@ -6,8 +6,8 @@ use Rattle.std.proofs.lemmas.List.Folds.{list_any-append}
 use Rattle.std.proofs.lemmas.Slice.Eq.{bytes_eq-Decides}
 use Rattle.net_model.specs.declared.wires.WireNo.{WireNo}
 use Rattle.net_model.specs.declared.wires.Wire.{Wire}
-use Rattle.net_model.specs.Wires.{NetData, parts_of}
-use Rattle.net_model.proofs.ValidityFacts.{length-valid, length-parts_of}
+use Rattle.net_model.specs.Wires.{NetData}
+use Rattle.net_model.proofs.ValidityFacts.{length-valid}
 use Rattle.net_model.specs.Validity.{IsValid}
 
 -- no element is the same as one behind it
@@ -128,12 +128,9 @@ unfolding same_number
 same_number_comm m n =
     same_tests (m.0 == n.0) (n.0 == m.0) (λ h. eq-eqb n.0 m.0 (sym (eqb-true m.0 n.0 h))) (λ h. eq-eqb m.0 n.0 (sym (eqb-true n.0 m.0 h)))
 
--- numbers of wires and of parts fit 32 bits
+-- numbers of wires fit 32 bits
 le_lt_512 : (n : ℕ) → n ≤ 512 → n < 2 ^ 32
 le_lt_512 n h = omega arith
 
 pub few_valid : (net : NetData) → IsValid net → length net.wires < 2 ^ 32
 few_valid net valid = le_lt_512 (length net.wires) (length-valid net valid)
-
-pub few_parts : (net : NetData) → IsValid net → length (parts_of net.wires) < 2 ^ 32
-few_parts net valid = rw (length-parts_of net.wires) (le_lt_512 (length net.wires) (length-valid net valid))

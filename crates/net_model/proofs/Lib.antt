@@ -1,4 +1,5 @@
 mod DraftLemmas
+pub mod PartPlaces
 mod NumberingLemmas
 mod NameLemmas
 pub mod BuiltFacts

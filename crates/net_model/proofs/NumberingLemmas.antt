@@ -1,18 +1,15 @@
--- How the lists of inputs and of parts grow, wire by wire, and where a part stands among them.
-use Rattle.std.proofs.Common.{◌≡◌, ℕ, ◌+◌, ◌<◌, ◌≤◌, true, false, List, [], ◌∷◌, ◌++◌, length, drop, nat_lt, refl, sym, ap, ◌∙◌, arith, add-one, drop-cons, drop_of_length-le, append_assoc, append-nil, lt-ltb, cond}
-use Rattle.std.specs.Prelude.{Some, None, position}
-use Rattle.std.specs.List.{position_or_len}
-use Rattle.std.proofs.lemmas.List.Recursion.{is_position_or_len}
+-- How the lists of inputs, of parts and of the numbers of first parts grow, wire by wire.
+use Rattle.std.proofs.Common.{◌≡◌, ℕ, zero, suc, ◌+◌, ◌*◌, ◌<◌, ◌≤◌, true, false, List, [], ◌∷◌, ◌++◌, map, length, get_or, take, take-suc, drop, refl, sym, ap, ◌∙◌, arith, add-one, drop-cons, drop_of_length-le, append_assoc, append-nil}
+use Rattle.std.proofs.lemmas.List.{map-append, take_all}
 use Rattle.net_model.specs.declared.wires.WireNo.{WireNo}
+use Rattle.net_model.specs.declared.wires.PartNo.{PartNo}
 use Rattle.net_model.specs.declared.wires.Item.{Item}
 use Rattle.net_model.specs.declared.wires.Item.TheVariants.{Input, Const, Block as OfBlock}
 use Rattle.net_model.specs.declared.wires.Wire.{Wire}
 use Rattle.net_model.specs.declared.wires.Role.{Role}
-use Rattle.net_model.specs.declared.wires.Role.TheVariants.{Value}
 use Rattle.net_model.specs.declared.wires.Part.{Part}
-use Rattle.net_model.specs.Wires.{wire_at, no_wire, is_input, with_input, inputs_from, inputs_of, parts_from, parts_of, place_in, part_number}
-use Rattle.net_model.specs.Wires.{is_part}
-use Rattle.net_model.proofs.ValidityFacts.{parts_from-cons, length-parts_of, place_in-parts_of, part_number-is}
+use Rattle.net_model.specs.Wires.{wire_at, no_wire, is_input, with_input, inputs_from, inputs_of, roles_of, parts_from, parts_of, firsts_from}
+use Rattle.net_model.proofs.PartPlaces.{part_of, few_roles}
 
 -- the wires from wire i on are wire i and those behind it
 drop-wires : (wires : List Wire) (i : ℕ) → i < length wires → drop i wires ≡ wire_at wires i ∷ drop (i + 1) wires
@@ -51,28 +48,53 @@ inputs_done wires i found past e =
 abbrev pub ArePartsBelow : List Wire → ℕ → List Part → Type 0
 ArePartsBelow wires i made = made ++ parts_from i (drop i wires) ≡ parts_of wires
 
-pub parts_push : (wires : List Wire) (i : ℕ) (made : List Part) → i < length wires → ArePartsBelow wires i made → ArePartsBelow wires (i + 1) (made ++ record { wire = record { 0 = i }; role = Value } ∷ [])
+parts_push : (wires : List Wire) (i : ℕ) (made : List Part) → i < length wires → ArePartsBelow wires i made → ArePartsBelow wires (i + 1) (made ++ map (part_of i) (roles_of (wire_at wires i).item))
 parts_push wires i made lt e =
-    append_assoc made _ _ ∙ sym (ap (λ r. made ++ r) (ap (parts_from i) (drop-wires wires i lt) ∙ parts_from-cons i (wire_at wires i) (drop (i + 1) wires))) ∙ e
+    append_assoc made _ _ ∙ sym (ap (λ r. made ++ parts_from i r) (drop-wires wires i lt)) ∙ e
+
+any_default : (wires : List Wire) (i : ℕ) (d : Wire) → i < length wires → get_or wires i d ≡ wire_at wires i
+any_default [] i d lt = absurd (omega arith)
+any_default (w ∷ wires) zero d lt = refl
+any_default (w ∷ wires) (suc i) d lt = any_default wires i d (omega arith)
+
+-- the parts of one more wire
+pub parts_more : (wires : List Wire) (i : ℕ) (made new : List Part) (roles : List Role) (d : Wire) → i < length wires → ArePartsBelow wires i made → new ≡ made ++ map (part_of i) roles → roles ≡ roles_of (get_or wires i d).item → ArePartsBelow wires (i + 1) new
+parts_more wires i made new roles d lt e is same = rw (is, same ∙ ap (λ w. roles_of w.item) (any_default wires i d lt)) (parts_push wires i made lt e)
+
+-- one more part of a wire
+pub roles_push : (old parts : List Part) (wire : ℕ) (roles : List Role) (i : ℕ) (d : Role) → i < length roles → parts ≡ old ++ map (part_of wire) (take i roles) → parts ++ part_of wire (get_or roles i d) ∷ [] ≡ old ++ map (part_of wire) (take (i + 1) roles)
+roles_push old parts wire roles i d lt e =
+    ap (λ p. p ++ part_of wire (get_or roles i d) ∷ []) e
+    ∙ append_assoc old (map (part_of wire) (take i roles)) (part_of wire (get_or roles i d) ∷ [])
+    ∙ ap (λ p. old ++ p) (sym (map-append (part_of wire) (take i roles) (get_or roles i d ∷ [])))
+    ∙ ap (λ r. old ++ map (part_of wire) r) (sym (ap (λ n. take n roles) (add-one i) ∙ take-suc roles i d lt))
+
+pub roles_done : (old parts : List Part) (wire : ℕ) (roles : List Role) (i : ℕ) → length roles ≤ i → parts ≡ old ++ map (part_of wire) (take i roles) → parts ≡ old ++ map (part_of wire) roles
+roles_done old parts wire roles i past e = e ∙ ap (λ r. old ++ map (part_of wire) r) (take_all i roles past)
 
 pub parts_done : (wires : List Wire) (i : ℕ) (made : List Part) → length wires ≤ i → ArePartsBelow wires i made → made ≡ parts_of wires
 parts_done wires i made past e =
     sym (append-nil made) ∙ ap (λ r. made ++ parts_from i r) (sym (drop_of_length-le wires past)) ∙ e
 
--- the place of a part is the first at which the test of the part passes
-position_or_len-parts : (wire : ℕ) (role : Role) (parts : List Part) → place_in wire role parts ≡ position_or_len (is_part wire role) parts
-position_or_len-parts wire role parts =
-    is_position_or_len (place_in wire role) (is_part wire role) refl (λ p ps. ap (λ n. cond (is_part wire role p) 0 n) (omega arith)) parts
+-- the numbers of first parts that were made, and those from wire i on, whose first part has number `next`, are all; and that
+-- number isn't above four times those before
+abbrev pub AreFirstsBelow : List Wire → ℕ → ℕ → List PartNo → Type 0
+AreFirstsBelow wires i next made = (made ++ firsts_from next (drop i wires) ≡ firsts_from 0 wires) × (next ≤ 4 * i)
 
-position-value : (wires : List Wire) (k : ℕ) → k < length wires → position (is_part k Value) (parts_of wires) ≡ Some k
-position-value wires k lt =
-    let place : position_or_len (is_part k Value) (parts_of wires) ≡ k = sym (position_or_len-parts k Value (parts_of wires)) ∙ place_in-parts_of wires k lt in
-    let below : k < length (parts_of wires) = omega (arith, length-parts_of wires) in
-    ap (λ n. cond (nat_lt n (length (parts_of wires))) (Some n) None) place ∙ ap (λ b. cond b (Some k) None) (lt-ltb k (length (parts_of wires)) below)
+pub firsts_push : (wires : List Wire) (i next : ℕ) (made : List PartNo) (roles : List Role) (d : Wire) → i < length wires → roles ≡ roles_of (get_or wires i d).item → AreFirstsBelow wires i next made → AreFirstsBelow wires (i + 1) (next + length roles) (made ++ record { 0 = next } ∷ [])
+firsts_push wires i next made roles d lt same below =
+    let here : roles ≡ roles_of (wire_at wires i).item = same ∙ ap (λ w. roles_of w.item) (any_default wires i d lt) in
+    let few : length roles ≤ 4 = rw here (few_roles (wire_at wires i).item) in (
+      append_assoc made _ _ ∙ ap (λ l. made ++ record { 0 = next } ∷ firsts_from (next + l) (drop (i + 1) wires)) (ap length here) ∙ sym (ap (λ r. made ++ firsts_from next r) (drop-wires wires i lt)) ∙ below.0,
+      omega (arith, few, below.1),
+    )
 
-pub position-parts_of : (wires : List Wire) (k : ℕ) (role : Role) → k < length wires → position (is_part k role) (parts_of wires) ≡ part_number wires k role
-position-parts_of wires k Value lt = position-value wires k lt ∙ sym (part_number-is wires k Value lt)
+pub firsts_done : (wires : List Wire) (i next : ℕ) (made : List PartNo) → length wires ≤ i → AreFirstsBelow wires i next made → made ≡ firsts_from 0 wires
+firsts_done wires i next made past below =
+    sym (append-nil made) ∙ ap (λ r. made ++ firsts_from next r) (sym (drop_of_length-le wires past)) ∙ below.0
 
 pub ruleset inputs_steps = (inputs_push, inputs_pass, inputs_done)
 
-pub ruleset parts_steps = (parts_push, parts_done)
+pub ruleset parts_steps = (parts_done, roles_done)
+
+pub ruleset firsts_steps = firsts_done

@@ -1,6 +1,6 @@
--- What a valid network keeps, and where its parts stand.
-use Rattle.std.proofs.Common.{◌≡◌, ℕ, zero, suc, ◌+◌, ◌<◌, ◌≤◌, Bool, true, ◌&&◌, List, [], ◌∷◌, ◌++◌, map, length, take, drop, get_or, ◌==◌, ℤ, ◌≤ℤ◌, nat_lt, nat_le, int_le, refl, sym, ap, ◌∙◌, subst, arith, true≢false, ltb-true, leb-true, eqb-true, eq-eqb, ne_eqb, cond}
-use Rattle.std.specs.Prelude.{Option, Some, None, slice_get, if◌then◌else◌}
+-- What a valid network keeps.
+use Rattle.std.proofs.Common.{◌≡◌, ℕ, zero, suc, ◌+◌, ◌<◌, ◌≤◌, Bool, true, ◌&&◌, List, [], ◌∷◌, map, length, take, drop, get_or, ◌==◌, ℤ, ◌≤ℤ◌, nat_lt, nat_le, int_le, refl, sym, ap, subst, arith, true≢false, ltb-true, leb-true, eqb-true}
+use Rattle.std.specs.Prelude.{Option, Some, None, slice_get}
 use Rattle.std.specs.List.{list_any, list_all}
 use Rattle.std.proofs.lemmas.Bool.{and_parts}
 use Rattle.std.proofs.lemmas.Int.{ints}
@@ -22,10 +22,7 @@ use Rattle.net_model.specs.declared.wires.Block.TheVariants.{Arith, Scaled}
 use Rattle.net_model.specs.declared.wires.Item.{Item}
 use Rattle.net_model.specs.declared.wires.Item.TheVariants.{Input, Const, Block as OfBlock}
 use Rattle.net_model.specs.declared.wires.Wire.{Wire}
-use Rattle.net_model.specs.declared.wires.Role.{Role}
-use Rattle.net_model.specs.declared.wires.Role.TheVariants.{Value}
-use Rattle.net_model.specs.declared.wires.Part.{Part}
-use Rattle.net_model.specs.Wires.{NetData, wire_at, no_wire, kind_least, kind_greatest, point_of, argument_of, is_input, roles_of, parts_from, parts_of, no_part, place_in, has_role, part_number}
+use Rattle.net_model.specs.Wires.{NetData, wire_at, no_wire, kind_least, kind_greatest, point_of, argument_of, is_input}
 use Rattle.net_model.specs.declared.signatures.Sort.TheVariants.{Number}
 use Rattle.net_model.specs.Built.{is_built}
 use Rattle.net_model.specs.Signatures.{signature_of}
@@ -305,70 +302,3 @@ argument_of-valid net i b h lt e p = argument_of-good net i (wire_at net.wires i
 -- each output is a wire
 pub outs-valid : (net : NetData) → IsValid net → list_all (λ o. nat_lt o.0 (length net.wires)) net.outs ≡ true
 outs-valid net h = (conditions net h).outs_there
-
--- a wire has one part, its value
-pub roles_of-is : (item : Item) → roles_of item ≡ Value ∷ []
-roles_of-is (Input lo hi) = refl
-roles_of-is (Const value) = refl
-roles_of-is (OfBlock b) = refl
-
-pub has_role-value : (item : Item) → has_role Value (roles_of item) ≡ true
-has_role-value item = ap (has_role Value) (roles_of-is item)
-
--- the value of wire i
-abbrev pub value_part : ℕ → Part
-value_part i = record { wire = record { 0 = i }; role = Value }
-
-pub parts_from-cons : (i : ℕ) (w : Wire) (wires : List Wire) → parts_from i (w ∷ wires) ≡ value_part i ∷ parts_from (i + 1) wires
-parts_from-cons i w wires =
-    ap (λ roles. map (λ (r : Role). record { wire = record { 0 = i }; role = r }) roles ++ parts_from (i + 1) wires) (roles_of-is w.item)
-
--- there are as many parts as wires
-length-parts_from : (i : ℕ) (wires : List Wire) → length (parts_from i wires) ≡ length wires
-length-parts_from i [] = refl
-length-parts_from i (w ∷ wires) = rw (parts_from-cons i w wires) (ap suc (length-parts_from (i + 1) wires))
-
-pub length-parts_of : (wires : List Wire) → length (parts_of wires) ≡ length wires
-length-parts_of wires = length-parts_from 0 wires
-
--- part k is the value of wire k
-get_or-parts_from : (i k : ℕ) (wires : List Wire) → k < length wires → get_or (parts_from i wires) k no_part ≡ value_part (i + k)
-get_or-parts_from i k [] lt = absurd (omega arith)
-get_or-parts_from i zero (w ∷ wires) lt = rw (parts_from-cons i w wires) (ap value_part (omega arith))
-get_or-parts_from i (suc k) (w ∷ wires) lt =
-    let shorter : k < length wires = omega arith in
-    let e : (i + 1) + k ≡ i + suc k = omega arith in
-    rw (parts_from-cons i w wires) (get_or-parts_from (i + 1) k wires shorter ∙ ap value_part e)
-
-pub get_or-parts_of : (wires : List Wire) (k : ℕ) → k < length wires → get_or (parts_of wires) k no_part ≡ value_part k
-get_or-parts_of wires k lt = get_or-parts_from 0 k wires lt ∙ ap value_part (omega arith)
-
--- the value of wire k is part k
-place_in-here : (i : ℕ) (parts : List Part) → place_in i Value (value_part i ∷ parts) ≡ 0
-place_in-here i parts = ap (λ b. cond (b && true) 0 (suc (place_in i Value parts))) (eq-eqb i i refl)
-
-place_in-later : (i j : ℕ) (parts : List Part) → (i ≡ j → ⊥) → place_in j Value (value_part i ∷ parts) ≡ suc (place_in j Value parts)
-place_in-later i j parts differ = ap (λ b. cond (b && true) 0 (suc (place_in j Value parts))) (ne_eqb i j differ)
-
-place_in-parts_from : (i k : ℕ) (wires : List Wire) → k < length wires → place_in (i + k) Value (parts_from i wires) ≡ k
-place_in-parts_from i k [] lt = absurd (omega arith)
-place_in-parts_from i zero (w ∷ wires) lt =
-    let e : i + 0 ≡ i = omega arith in
-    ap (λ j. place_in j Value (parts_from i (w ∷ wires))) e ∙ rw (parts_from-cons i w wires) (place_in-here i _)
-place_in-parts_from i (suc k) (w ∷ wires) lt =
-    let shorter : k < length wires = omega arith in
-    let e : i + suc k ≡ (i + 1) + k = omega arith in
-    let differ : i ≡ i + suc k → ⊥ = omega arith in
-    rw (parts_from-cons i w wires)
-    (place_in-later i (i + suc k) _ differ ∙ ap suc (ap (λ j. place_in j Value (parts_from (i + 1) wires)) e ∙ place_in-parts_from (i + 1) k wires shorter))
-
-pub place_in-parts_of : (wires : List Wire) (k : ℕ) → k < length wires → place_in k Value (parts_of wires) ≡ k
-place_in-parts_of wires k lt =
-    let e : 0 + k ≡ k = omega arith in
-    rw e at (place_in-parts_from 0 k wires lt)
-
--- the number of the value of a wire is that of the wire
-pub part_number-is : (wires : List Wire) (k : ℕ) (role : Role) → k < length wires → part_number wires k role ≡ Some k
-unfolding part_number
-part_number-is wires k Value lt =
-    ap (λ b. if b then Some (place_in k Value (parts_of wires)) else None) (has_role-value (wire_at wires k).item) ∙ ap Some (place_in-parts_of wires k lt)

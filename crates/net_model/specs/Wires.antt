@@ -1,8 +1,9 @@
 -- A network as data, and what is read off its wires without running it.
-use Rattle.std.specs.Prelude.{ℕ, suc, ◌+◌, Bool, true, false, List, [], ◌∷◌, ◌++◌, map, get_or, take, ℤ, pos, count_by, ◌&&◌, ◌==◌, Option, Some, None, position, bytes_eq, if◌then◌else◌}
+use Rattle.std.specs.Prelude.{ℕ, suc, ◌+◌, Bool, true, false, List, [], ◌∷◌, ◌++◌, map, length, get_or, take, ℤ, pos, count_by, ◌&&◌, ◌==◌, Option, Some, None, position, bytes_eq, if◌then◌else◌}
 use Rattle.fx_core.specs.declared.word_type.Ty.TheVariants.{U8}
 use Rattle.fx_core.specs.Types.{least_of, greatest_of}
 use Rattle.net_model.specs.declared.wires.WireNo.{WireNo}
+use Rattle.net_model.specs.declared.wires.PartNo.{PartNo}
 use Rattle.net_model.specs.declared.wires.Kind.{Kind}
 use Rattle.net_model.specs.declared.wires.Kind.TheVariants.{Num, Truth}
 use Rattle.net_model.specs.declared.wires.Block.{Block}
@@ -98,6 +99,15 @@ parts_from i (w ∷ wires) = map (λ r. record { wire = record { 0 = i }; role =
 abbrev pub parts_of : List Wire → List Part
 parts_of wires = parts_from 0 wires
 
+-- the number of each wire's first part, where that of the first wire is n
+abbrev pub firsts_from : ℕ → List Wire → List PartNo
+firsts_from n [] = []
+firsts_from n (w ∷ wires) = record { 0 = n } ∷ firsts_from (n + length (roles_of w.item)) wires
+
+-- the number of wire k's first part
+abbrev pub first_at : List PartNo → ℕ → PartNo
+first_at firsts k = get_or firsts k (record { 0 = 0 })
+
 -- the part that is read where there is none
 abbrev pub no_part : Part
 no_part = record { wire = record { 0 = 0 }; role = Value }
@@ -119,6 +129,11 @@ place_in wire role (p ∷ parts) = if is_part wire role p then 0 else suc (place
 abbrev pub has_role : Role → List Role → Bool
 has_role role [] = false
 has_role role (r ∷ roles) = if same_role r role then true else has_role role roles
+
+-- the place of a role among roles: how many stand before it
+abbrev pub role_place : Role → List Role → ℕ
+role_place role [] = 0
+role_place role (r ∷ roles) = if same_role r role then 0 else suc (role_place role roles)
 
 -- the number of a part of a wire; none where the wire has no such part
 unfoldable pub part_number : List Wire → ℕ → Role → Option ℕ

@@ -1,11 +1,11 @@
 ghost use Rattle.std.specs.Prelude.{◌≡◌, ◌<◌, IfErr, IfOk, OnOk, length, option_map};
-ghost use Rattle.net_model.specs.Wires.{inputs_of, part_number, parts_of, place_of};
+ghost use Rattle.net_model.specs.Wires.{first_at, firsts_from, inputs_of, part_number, parts_of, place_of, roles_of, wire_at};
 ghost use Rattle.net_model.specs.Validity.{IsValid};
 ghost use Rattle.net_model.specs.Smooth.{IsFirstRough, IsSmooth};
 ghost use Rattle.net_model.specs.declared.network.NetRefusal.TheVariants.{At, OutOfMemory};
 
 use crate::draft_checks::{Fault, check_draft};
-use crate::numbering::{input_numbers, name_map, part_list, place_in};
+use crate::numbering::{first_parts, input_numbers, name_map, part_list, place_of_role};
 use crate::smoothness::first_rough;
 use crate::wires::{Part, PartNo, Role, Wire, WireNo};
 use indexmap::IndexMap;
@@ -88,12 +88,13 @@ pub struct Network {
     inputs: Vec<WireNo>,
     outs: Vec<WireNo>,
     parts: Vec<Part>,
+    firsts: Vec<PartNo>,
     names: IndexMap<Vec<u8>, WireNo>,
 }
 
 impl Model for Network {
     ghost use Rattle.std.specs.Prelude.{◌≡◌};
-    ghost use Rattle.net_model.specs.Wires.{NetData, inputs_of, parts_of};
+    ghost use Rattle.net_model.specs.Wires.{NetData, firsts_from, inputs_of, parts_of};
     ghost use Rattle.net_model.specs.Validity.{IsValid};
     ghost use Rattle.net_model.specs.NameMap.{HasNumbersOf};
 
@@ -104,6 +105,7 @@ impl Model for Network {
     ghost invariant = { λ n. IsValid (record { wires = n.wires.items; outs = n.outs.items })
         × (n.inputs.items ≡ inputs_of n.wires.items)
         × (n.parts.items ≡ parts_of n.wires.items)
+        × (n.firsts.items ≡ firsts_from 0 n.wires.items)
         × HasNumbersOf n.wires.items n.names };
 }
 
@@ -131,12 +133,14 @@ impl Network {
     {
         let inputs = input_numbers(alloc, &draft.wires)?;
         let parts = part_list(alloc, &draft.wires)?;
+        let firsts = first_parts(alloc, &draft.wires)?;
         let names = name_map(alloc, &draft.wires)?;
         Ok(Network {
             wires: draft.wires,
             inputs,
             outs: draft.outs,
             parts,
+            firsts,
             names,
         })
     }
@@ -181,12 +185,35 @@ impl Network {
     }
 
     /// The number of a part of a wire, and None where the wire has no such part.
-    #[tactic(auto, using(crate::proofs::DraftLemmas::few_parts))]
     pub fn part_of(&self, w: WireNo, role: Role) -> Option<PartNo>
         requires { w.0 < length self.now.wires }
         ensures { result ≡ option_map (λ n. record { 0 = n }) (part_number self.now.wires w.0 role) }
     {
-        place_in(self.parts(), w, role)
+        let place = place_of_role(self.roles(w), role)?;
+        Some(PartNo(self.first_part(w).0 + place as u32))
+    }
+
+    // The parts of a wire.
+    fn roles(&self, w: WireNo) -> &[Role]
+        requires { w.0 < length self.now.wires }
+        ensures { result.now ≡ roles_of (wire_at self.now.wires w.0).item }
+    {
+        self.wires()[w.0 as usize].item.roles()
+    }
+
+    // The number of a wire's first part.
+    #[tactic(auto, using(crate::proofs::PartPlaces::as_many_firsts))]
+    fn first_part(&self, w: WireNo) -> PartNo
+        requires { w.0 < length self.now.wires }
+        ensures { result ≡ first_at (firsts_from 0 self.now.wires) w.0 }
+    {
+        self.firsts()[w.0 as usize]
+    }
+
+    fn firsts(&self) -> &[PartNo]
+        ensures { result.now ≡ firsts_from 0 self.now.wires }
+    {
+        self.firsts.as_slice()
     }
 
     /// Whether certificates are for the network: else the first wire whose block isn't smooth.

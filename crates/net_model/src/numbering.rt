@@ -1,6 +1,6 @@
 // What a network keeps beside its wires: the inputs, the parts, and the numbers by the names.
-ghost use Rattle.std.specs.Prelude.{◌≡◌, ◌<◌, ◌^◌, IfOk, IfSome, length, map, option_map, position, true};
-ghost use Rattle.net_model.specs.Wires.{inputs_of, is_part, parts_of, same_role};
+ghost use Rattle.std.specs.Prelude.{◌≡◌, ◌<◌, ◌≤◌, ◌^◌, ◌++◌, IfOk, IfSome, OnOk, length, map, position, true};
+ghost use Rattle.net_model.specs.Wires.{firsts_from, inputs_of, parts_of, same_role};
 ghost use Rattle.net_model.specs.Validity.{are_distinct};
 ghost use Rattle.net_model.specs.NameMap.{HasNumbersOf};
 
@@ -31,37 +31,45 @@ pub fn part_list(alloc: Global, wires: &[Wire]) -> Result<Vec<Part>, AllocError>
 {
     let mut parts = Vec::new(alloc);
     for i in 0..wires.len() {
-        let wire = WireNo(i as u32);
-        parts.push(Part {
-            wire,
-            role: Role::Value,
-        })?;
+        push_parts(&mut parts, WireNo(i as u32), wires[i].item.roles())?;
     }
     Ok(parts)
 }
 
-/// The number of a part in a list of parts: how many stand before it. None where it isn't there.
-pub fn place_in(parts: &[Part], wire: WireNo, role: Role) -> Option<PartNo>
-    requires { length parts.now < 2 ^ 32 }
-    ensures { result ≡ option_map (λ n. record { 0 = n }) (position (is_part wire.0 role) parts.now) }
+// Appends the parts of one wire.
+fn push_parts(parts: &mut Vec<Part>, wire: WireNo, roles: &[Role]) -> Result<(), AllocError>
+    ensures { OnOk result (parts.new.items ≡ parts.old.items ++ map (λ r. record { wire = wire; role = r }) roles.now) }
 {
-    match index_in(parts, wire, role) {
-        Some(place) => Some(PartNo(place as u32)),
-        None => None,
+    for i in 0..roles.len() {
+        parts.push(Part {
+            wire,
+            role: roles[i],
+        })?;
     }
+    Ok(())
 }
 
-fn index_in(parts: &[Part], wire: WireNo, role: Role) -> Option<usize>
-    ensures place { result ≡ position (is_part wire.0 role) parts.now }
-    ensures below { IfSome result (λ place. place < length parts.now) }
+/// The number of each wire's first part.
+#[tactic(auto, using(crate::proofs::NumberingLemmas::firsts_steps))]
+pub fn first_parts(alloc: Global, wires: &[Wire]) -> Result<Vec<PartNo>, AllocError>
+    requires { length wires.now ≤ 512 }
+    ensures { IfOk result (λ v. v.items ≡ firsts_from 0 wires.now) }
 {
-    parts.iter().position(|part| is_part(*part, wire, role))
+    let mut firsts = Vec::new(alloc);
+    let mut next = 0;
+    for i in 0..wires.len() {
+        firsts.push(PartNo(next))?;
+        next += wires[i].item.roles().len() as u32;
+    }
+    Ok(firsts)
 }
 
-fn is_part(part: Part, wire: WireNo, role: Role) -> bool
-    ensures { result ≡ is_part wire.0 role part }
+/// The place of a role among those of a wire. None where the wire has no such part.
+pub fn place_of_role(roles: &[Role], role: Role) -> Option<usize>
+    ensures place { result ≡ position (λ r. same_role r role) roles.now }
+    ensures below { IfSome result (λ place. place < length roles.now) }
 {
-    part.wire.0 == wire.0 && same_role(part.role, role)
+    roles.iter().position(|other| same_role(*other, role))
 }
 
 fn same_role(one: Role, other: Role) -> bool

@@ -52,13 +52,23 @@ pub enum Item {
 
 impl Item {
     ghost use Rattle.std.specs.Prelude.{◌≡◌};
-    ghost use Rattle.net_model.specs.Wires.{is_input};
+    ghost use Rattle.net_model.specs.Wires.{is_input, roles_of};
 
     /// Whether the wire is an input.
     pub fn is_input(self) -> bool
         ensures { result ≡ is_input self }
     {
         matches!(self, Item::Input { .. })
+    }
+
+    /// The parts of the wire, in order: its states, then its value.
+    pub fn roles(self) -> &'static [Role]
+        ensures { result.now ≡ roles_of self }
+    {
+        match self {
+            Item::Input { .. } | Item::Const { .. } => &[Role::Value],
+            Item::Block(_) => &[Role::Value],
+        }
     }
 }
 

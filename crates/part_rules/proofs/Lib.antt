@@ -12,3 +12,5 @@ pub mod Sizes
 pub mod MagnitudeWords
 pub mod WordSteps
 pub mod RuleLaws
+pub mod RangesGrow
+pub mod ErrorsGrow

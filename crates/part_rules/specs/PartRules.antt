@@ -43,6 +43,10 @@ arguments_read p (suc n) = read_now p ∷ arguments_read (p + 1) n
 abbrev pub renamed_reading : {P Q : Type 0} → (P → Q) → Reading P → Reading Q
 renamed_reading name reading = record { part = name reading.part; before = reading.before }
 
+-- a rule that reads nothing, and gives the numbers from lo to hi without an error
+abbrev pub fixed_rule : {P : Type 0} → ℤ → ℤ → PartRule P
+fixed_rule lo hi = record { reads = []; fails = λ given. false; bounds = λ given. record { lo = lo; hi = hi; err = pos 0 } }
+
 -- the same rule, where each part has another name
 abbrev pub renamed : {P Q : Type 0} → (P → Q) → PartRule P → PartRule Q
 renamed name rule = record {
@@ -84,6 +88,10 @@ pub record PartMeaning : Type 1 where
   -- no divisor is 0
   pub Divides : (ℕ → Fraction) → Type 0
 
+-- what a part means that has a whole number of its own
+abbrev pub fixed_meaning : ℤ → PartMeaning
+fixed_meaning v = record { value = λ m. v; exactly = λ e. whole v; Divides = λ e. Unit {0} }
+
 -- a part keeps to bounds where its rule reads the whole numbers m in the machine, and the fractions e
 pub record KeepsTo (meaning : PartMeaning) (b : Bounds) (m : ℕ → ℤ) (e : ℕ → Fraction) : Type 0 where
   -- no divisor is 0 at the whole numbers
@@ -122,6 +130,12 @@ IsMonotone rule Fit =
     (narrow wide : List Bounds) → Fit wide → rule.fails wide ≡ false →
     ((p : ℕ) → p < length rule.reads → IsNarrower (bounds_at narrow p) (bounds_at wide p)) →
     (rule.fails narrow ≡ false) × LiesInside (rule.bounds narrow) (rule.bounds wide)
+
+-- where wide bounds lead to some, narrower ones lead to some inside of these
+abbrev pub LeadsInside : Option Bounds → Option Bounds → Type 0
+LeadsInside narrow None = Unit {0}
+LeadsInside None (Some w) = ⊥
+LeadsInside (Some b) (Some w) = LiesInside b w
 
 -- a part keeps its rule: the rule is sound and monotone, from bounds that fit
 pub record KeepsRule {P : Type 0} (rule : PartRule P) (meaning : PartMeaning) (Fit : List Bounds → Type 0) : Type 0 where

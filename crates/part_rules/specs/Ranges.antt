@@ -1,5 +1,5 @@
 -- The corners of ranges, and the hull of values.
-use Rattle.std.specs.Prelude.{ℕ, suc, zero, ◌+◌, ◌&&◌, List, [], ◌∷◌, ◌++◌, map, ℤ, pos, fold, int_le, if◌then◌else◌}
+use Rattle.std.specs.Prelude.{ℕ, suc, zero, ◌+◌, ◌&&◌, List, [], ◌∷◌, ◌++◌, map, get_or, ℤ, pos, fold, int_le, if◌then◌else◌}
 use Rattle.std.specs.Int.{int_min, int_max}
 use Rattle.part_rules.specs.declared.bounds.Bounds.{Bounds}
 
@@ -12,6 +12,10 @@ given_bounds given p (suc n) = given p ∷ given_bounds given (p + 1) n
 abbrev pub corners_of : List Bounds → List (List ℤ)
 corners_of [] = [] ∷ []
 corners_of (b ∷ bounds) = map (λ c. b.lo ∷ c) (corners_of bounds) ++ map (λ c. b.hi ∷ c) (corners_of bounds)
+
+-- the values of a function of n numbers at all corners of their ranges
+abbrev pub corner_values : ((ℕ → ℤ) → ℤ) → ℕ → (ℕ → Bounds) → List ℤ
+corner_values value n given = map (λ corner. value (λ p. get_or corner p (pos 0))) (corners_of (given_bounds given 0 n))
 
 -- the least number of a list that isn't empty
 abbrev pub least_among : List ℤ → ℤ

@@ -1,0 +1,135 @@
+-- The rules of blocks, family by family: what they read, that they are sound, and what the equations of their wires make. No
+-- other proof here names a family.
+use Rattle.std.proofs.Common.{◌≡◌, ℕ, zero, suc, ◌<◌, List, map, length, ℤ, pos, ◌≤ℤ◌, refl, sym, ap, ◌∙◌, subst, arith}
+use Rattle.fx_fraction.specs.Fraction.{Fraction, whole}
+use Rattle.fx_core.specs.declared.word_type.Ty.{Ty}
+use Rattle.fx_core.specs.declared.word_type.Ty.TheVariants.{U8, S8, U16, S16, U32, S32}
+use Rattle.fx_core.specs.Types.{least_of}
+use Rattle.fx_core.specs.Values.{Divides, rounded_fraction, unsaturated}
+use Rattle.fx_core.proofs.TypeLaws.{saturated_to-between}
+use Rattle.fx_routines.specs.declared.operation.ArithOp.{ArithOp}
+use Rattle.fx_routines.specs.declared.operation.ArithOp.TheVariants.{Abs, MulDiv, Limit, Min, Max, RateLimiter}
+use Rattle.fx_routines.specs.declared.operation.ScaledOp.{ScaledOp}
+use Rattle.fx_routines.specs.declared.operation.ScaledOp.TheVariants.{Convert}
+use Rattle.fx_routines.specs.declared.operation.Variant.{Variant}
+use Rattle.mfx_arith.specs.Operations.{argument_types, arith_arity, unsigned_of}
+use Rattle.mfx_scaled.specs.Operations.{argument_types as scaled_types, scaled_arity}
+use Rattle.net_model.specs.declared.wires.WireNo.{WireNo}
+use Rattle.net_model.specs.declared.wires.Kind.{Kind}
+use Rattle.net_model.specs.declared.wires.Block.{Block}
+use Rattle.net_model.specs.declared.wires.Block.TheVariants.{Arith, Scaled}
+use Rattle.net_model.specs.declared.wires.Item.TheVariants.{Block as OfBlock}
+use Rattle.net_model.specs.declared.wires.Role.TheVariants.{Value}
+use Rattle.net_model.specs.declared.wires.Part.{Part}
+use Rattle.net_model.specs.Wires.{NetData, wire_at, argument_of, kind_least, kind_greatest}
+use Rattle.net_model.specs.Validity.{IsValid, types_read}
+use Rattle.net_model.proofs.ValidityFacts.{arith-valid, number_kind}
+use Rattle.net_meaning.specs.Cells.{Cell, values_read as read_values}
+use Rattle.net_meaning.specs.Blocks.{formula, state_formula, quotient_of, mode_of, points_of, machine, machine_cell, machine_state_of, exact, exact_cell, state_least, state_greatest}
+use Rattle.net_meaning.specs.Runs.{equation_of}
+use Rattle.part_rules.specs.declared.bounds.Bounds.{Bounds}
+use Rattle.part_rules.specs.PartRules.{Reading, PartMeaning, IsSound, arguments_read, bounds_at, renamed, renamed_reading}
+use Rattle.part_rules.proofs.RuleLaws.{renamed_is_sound, sound_where_fit}
+use Rattle.mfx_rules.specs.OperationRules.{arith_rule, arith_meaning, FitOperation, scaled_rule, scaled_meaning, FitForm}
+use Rattle.mfx_rules.proofs.SoundRules.{operations_are_sound, forms_are_sound}
+use Rattle.cert_rules.specs.Rules.{argument_part, block_rule, least_of_part}
+use Rattle.cert_rules.proofs.Readings.{reading_at}
+
+-- ---- what is read
+
+-- the values of a block's arguments, at the same row
+abbrev pub values_read : Block → List (Reading Part)
+values_read b = map (renamed_reading (argument_part b)) (arguments_read 0 (length (types_read b)))
+
+arith_count : (op : ArithOp) (v : Variant) → arith_arity op ≡ length (argument_types op v)
+arith_count Abs v = refl
+arith_count MulDiv v = refl
+arith_count Limit v = refl
+arith_count Min v = refl
+arith_count Max v = refl
+arith_count RateLimiter v = refl
+arith_count other v = refl
+
+scaled_count : (op : ScaledOp) (v : Variant) → scaled_arity op ≡ length (scaled_types op v)
+scaled_count Convert v = refl
+scaled_count other v = refl
+
+pub block_reads : (net : NetData) (kind : Kind) (b : Block) → (block_rule net kind b Value).reads ≡ values_read b
+unfolding block_rule
+block_reads net kind (Arith op v x y z sh) = ap (λ n. map (renamed_reading (argument_part (Arith op v x y z sh))) (arguments_read 0 n)) (arith_count op v)
+block_reads net kind (Scaled op v x y) = ap (λ n. map (renamed_reading (argument_part (Scaled op v x y))) (arguments_read 0 n)) (scaled_count op v)
+
+-- ---- what a block's value means, and that its rule is sound
+
+-- by its formula and its quotient, from its arguments at the same row and without a state
+abbrev pub block_meaning : NetData → Kind → Block → PartMeaning
+block_meaning net kind b = record {
+  value = λ m. rounded_fraction (mode_of b) (formula net kind b (λ p ago. whole (m p)) (whole (pos 0)));
+  exactly = λ e. formula net kind b (λ p ago. e p) (whole (pos 0));
+  Divides = λ e. Divides (quotient_of net kind b (λ p ago. e p));
+}
+
+-- bounds fit where the range of each that is read begins within its part
+abbrev pub FitReads : NetData → List (Reading Part) → List Bounds → Type 0
+FitReads net reads given = (q : ℕ) → q < length reads → least_of_part net (reading_at reads q).part ≤ℤ (bounds_at given q).lo
+
+least_unsigned : (t : Ty) → least_of (unsigned_of t) ≡ pos 0
+least_unsigned U8 = refl
+least_unsigned S8 = refl
+least_unsigned U16 = refl
+least_unsigned S16 = refl
+least_unsigned U32 = refl
+least_unsigned S32 = refl
+
+-- the step of a rate limiter isn't below 0, since its wire is of an unsigned type
+arith_fits : (net : NetData) (i : ℕ) (op : ArithOp) (v : Variant) (x y z : WireNo) (sh : ℕ) (given : List Bounds) → IsValid net → i < length net.wires → (wire_at net.wires i).item ≡ OfBlock (Arith op v x y z sh) → FitReads net (renamed (argument_part (Arith op v x y z sh)) (arith_rule op sh)).reads given → FitOperation op given
+arith_fits net i RateLimiter v x y z sh given valid h is fit =
+    let good = arith-valid net i RateLimiter v x y z sh valid h is in
+    let number = number_kind (unsigned_of v.o) (wire_at net.wires z.0).kind good.third.number in
+    let least : kind_least (wire_at net.wires z.0).kind ≡ pos 0 = ap kind_least number.1 ∙ least_unsigned v.o in
+    subst (λ n. n ≤ℤ (bounds_at given 2).lo) least (fit 2 (omega arith))
+arith_fits net i other v x y z sh given valid h is fit = tt
+
+pub blocks_are_sound : (net : NetData) (kind : Kind) (i : ℕ) (b : Block) → IsValid net → i < length net.wires → (wire_at net.wires i).item ≡ OfBlock b → IsSound (block_rule net kind b Value) (block_meaning net kind b) (FitReads net (block_rule net kind b Value).reads)
+unfolding block_rule formula quotient_of
+blocks_are_sound net kind i (Arith op v x y z sh) valid h is =
+    let b = Arith op v x y z sh in
+    let rule = renamed (argument_part b) (arith_rule op sh) in
+    sound_where_fit rule (arith_meaning op sh) (FitOperation op) (FitReads net rule.reads) (λ given fit. arith_fits net i op v x y z sh given valid h is fit) (renamed_is_sound (argument_part b) (arith_rule op sh) (arith_meaning op sh) (FitOperation op) (operations_are_sound op sh))
+blocks_are_sound net kind i (Scaled op v x y) valid h is =
+    let b = Scaled op v x y in
+    let points = points_of net kind b in
+    let rule = renamed (argument_part b) (scaled_rule op points) in
+    sound_where_fit rule (scaled_meaning op points) FitForm (FitReads net rule.reads) (λ given fit. tt) (renamed_is_sound (argument_part b) (scaled_rule op points) (scaled_meaning op points) FitForm (forms_are_sound op points))
+
+-- ---- what the equation of a block's wire makes
+
+-- the values of its arguments at the same row
+abbrev pub values_now : {V : Type 0} → Block → (ℕ → ℕ → Cell V) → ℕ → V
+values_now b cells p = (cells 0 (argument_of b p)).value
+
+pub quotient_now : (net : NetData) (kind : Kind) (b : Block) (values : ℕ → ℕ → Fraction) → quotient_of net kind b (read_values b values) ≡ quotient_of net kind b (λ p ago. values 0 (argument_of b p))
+unfolding quotient_of
+quotient_now net kind (Arith op v x y z sh) values = refl
+quotient_now net kind (Scaled op v x y) values = refl
+
+pub block_value : (net : NetData) (rows : List (List ℤ)) (i : ℕ) (b : Block) (m : ℕ → ℕ → Cell ℤ) → let kind = (wire_at net.wires i).kind in (equation_of machine net rows m i (OfBlock b)).value_unsaturated ≡ unsaturated (mode_of b) (kind_least kind) (kind_greatest kind) (quotient_of net kind b (λ p ago. whole (values_now b m p))) (formula net kind b (λ p ago. whole (values_now b m p)) (whole (pos 0)))
+unfolding equation_of machine machine_cell machine_state_of state_formula quotient_of formula
+block_value net rows i (Arith op v x y z sh) m = refl
+block_value net rows i (Scaled op v x y) m = refl
+
+pub block_exact : (net : NetData) (rows : List (List ℤ)) (i : ℕ) (b : Block) (e : ℕ → ℕ → Cell Fraction) → (equation_of exact net rows e i (OfBlock b)).value ≡ formula net (wire_at net.wires i).kind b (λ p ago. values_now b e p) (whole (pos 0))
+unfolding equation_of exact exact_cell state_formula formula
+block_exact net rows i (Arith op v x y z sh) e = refl
+block_exact net rows i (Scaled op v x y) e = refl
+
+-- saturation leaves a value between the ends of its kind alone, and the state as well
+pub record IsKept (kind : Kind) (cell : Cell ℤ) : Type 0 where
+  pub kept : kind_least kind ≤ℤ cell.value_unsaturated → cell.value_unsaturated ≤ℤ kind_greatest kind → cell.value ≡ cell.value_unsaturated
+  pub state_low : state_least ≤ℤ cell.state_unsaturated
+  pub state_high : cell.state_unsaturated ≤ℤ state_greatest
+
+pub block_kept : (net : NetData) (rows : List (List ℤ)) (i : ℕ) (b : Block) (m : ℕ → ℕ → Cell ℤ) → IsKept (wire_at net.wires i).kind (equation_of machine net rows m i (OfBlock b))
+unfolding equation_of machine machine_cell machine_state_of state_formula
+block_kept net rows i (Arith op v x y z sh) m = record { kept = saturated_to-between _ _ _; state_low = record { le = tt }; state_high = record { le = tt } }
+block_kept net rows i (Scaled op v x y) m = record { kept = saturated_to-between _ _ _; state_low = record { le = tt }; state_high = record { le = tt } }
