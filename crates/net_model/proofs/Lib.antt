@@ -6,3 +6,6 @@ pub mod BuiltFacts
 pub mod ValidityFacts
 pub mod TestedDrafts
 pub mod HeldKinds
+pub mod SideBySide
+pub mod FormTypes
+pub mod FormInverses

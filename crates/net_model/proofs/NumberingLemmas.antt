@@ -84,10 +84,9 @@ AreFirstsBelow wires i next made = (made ++ firsts_from next (drop i wires) ≡ 
 pub firsts_push : (wires : List Wire) (i next : ℕ) (made : List PartNo) (roles : List Role) (d : Wire) → i < length wires → roles ≡ roles_of (get_or wires i d).item → AreFirstsBelow wires i next made → AreFirstsBelow wires (i + 1) (next + length roles) (made ++ record { 0 = next } ∷ [])
 firsts_push wires i next made roles d lt same below =
     let here : roles ≡ roles_of (wire_at wires i).item = same ∙ ap (λ w. roles_of w.item) (any_default wires i d lt) in
-    let few : length roles ≤ 4 = rw here (few_roles (wire_at wires i).item) in
-    (
+    let few : length roles ≤ 4 = rw here (few_roles (wire_at wires i).item) in (
       append_assoc made _ _ ∙ ap (λ l. made ++ record { 0 = next } ∷ firsts_from (next + l) (drop (i + 1) wires)) (ap length here) ∙ sym (ap (λ r. made ++ firsts_from next r) (drop-wires wires i lt)) ∙ below.0,
-      omega (arith, few, below.1)
+      omega (arith, few, below.1),
     )
 
 pub firsts_done : (wires : List Wire) (i next : ℕ) (made : List PartNo) → length wires ≤ i → AreFirstsBelow wires i next made → made ≡ firsts_from 0 wires

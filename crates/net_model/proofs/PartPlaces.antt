@@ -13,7 +13,7 @@ use Rattle.net_model.specs.declared.wires.Wire.{Wire}
 use Rattle.net_model.specs.declared.wires.Role.{Role}
 use Rattle.net_model.specs.declared.wires.Role.TheVariants.{Value}
 use Rattle.net_model.specs.declared.wires.Part.{Part}
-use Rattle.net_model.specs.Wires.{NetData, wire_at, same_role, is_part, roles_of, parts_from, parts_of, firsts_from, first_at, no_part, place_in, has_role, role_place, part_number}
+use Rattle.net_model.specs.Wires.{NetData, wire_at, same_role, roles_of, parts_from, parts_of, firsts_from, first_at, no_part, place_in, has_role, role_place, part_number}
 use Rattle.net_model.specs.Validity.{IsValid}
 use Rattle.net_model.proofs.ValidityFacts.{length-valid}
 

@@ -1,6 +1,6 @@
 -- What a valid network keeps.
-use Rattle.std.proofs.Common.{◌≡◌, ℕ, zero, suc, ◌+◌, ◌<◌, ◌≤◌, Bool, true, ◌&&◌, List, [], ◌∷◌, ◌++◌, map, length, get_or, ℤ, ◌≤ℤ◌, nat_lt, nat_le, int_le, refl, sym, ap, ◌∙◌, subst, arith, true≢false, ltb-true, leb-true, eqb-true, eq-eqb, ne_eqb, cond}
-use Rattle.std.specs.Prelude.{Option, Some, None, slice_get, if◌then◌else◌}
+use Rattle.std.proofs.Common.{◌≡◌, ℕ, zero, suc, ◌+◌, ◌<◌, ◌≤◌, Bool, true, ◌&&◌, List, [], ◌∷◌, map, length, take, drop, get_or, ◌==◌, ℤ, ◌≤ℤ◌, nat_lt, nat_le, int_le, refl, sym, ap, subst, arith, true≢false, ltb-true, leb-true, eqb-true}
+use Rattle.std.specs.Prelude.{Option, Some, None, slice_get}
 use Rattle.std.specs.List.{list_any, list_all}
 use Rattle.std.proofs.lemmas.Bool.{and_parts}
 use Rattle.std.proofs.lemmas.Int.{ints}
@@ -9,13 +9,11 @@ use denote.Enum.Bare.{same_true}
 use Rattle.fx_core.specs.contracts.word_type.Ty.{the_type}
 use Rattle.fx_core.specs.declared.word_type.Ty.{Ty}
 use Rattle.fx_routines.specs.declared.operation.ArithOp.{ArithOp}
-use Rattle.fx_routines.specs.declared.operation.ArithOp.TheVariants.{Abs, MulDiv, Limit, Min, Max, RateLimiter}
 use Rattle.fx_routines.specs.declared.operation.Variant.{Variant}
 use Rattle.fx_routines.specs.declared.table.Routine.TheVariants as routine
 use Rattle.mfx_arith.specs.Operations.{Takes, argument_types}
 use Rattle.mfx_arith.proofs.TypesTaken.{taken}
 use Rattle.fx_routines.specs.declared.operation.ScaledOp.{ScaledOp}
-use Rattle.fx_routines.specs.declared.operation.ScaledOp.TheVariants.{Convert}
 use Rattle.net_model.specs.declared.wires.WireNo.{WireNo}
 use Rattle.net_model.specs.declared.wires.Kind.{Kind}
 use Rattle.net_model.specs.declared.wires.Kind.TheVariants.{Num, Truth}
@@ -24,13 +22,15 @@ use Rattle.net_model.specs.declared.wires.Block.TheVariants.{Arith, Scaled}
 use Rattle.net_model.specs.declared.wires.Item.{Item}
 use Rattle.net_model.specs.declared.wires.Item.TheVariants.{Input, Const, Block as OfBlock}
 use Rattle.net_model.specs.declared.wires.Wire.{Wire}
-use Rattle.net_model.specs.declared.wires.Role.{Role}
-use Rattle.net_model.specs.declared.wires.Role.TheVariants.{Value}
-use Rattle.net_model.specs.declared.wires.Part.{Part}
-use Rattle.net_model.specs.Wires.{NetData, wire_at, no_wire, kind_least, kind_greatest, point_of, argument_of, is_input, roles_of, parts_from, parts_of, no_part, place_in, has_role, part_number}
-use Rattle.net_model.specs.Built.{is_built, is_shift}
+use Rattle.net_model.specs.Wires.{NetData, wire_at, no_wire, kind_least, kind_greatest, point_of, argument_of, is_input}
+use Rattle.net_model.specs.declared.signatures.Sort.TheVariants.{Number}
+use Rattle.net_model.specs.Built.{is_built}
+use Rattle.net_model.specs.Signatures.{signature_of}
+use Rattle.net_model.specs.BlockForms.{form_of, held_by, first_of, signature_in, repeats_first, adds_no_number}
+use Rattle.net_model.proofs.BuiltFacts.{is_shift, shift_of_ranges, reads_some}
+use Rattle.net_model.proofs.SideBySide.{same_lengths}
 use Rattle.mfx_scaled.specs.Operations.{argument_types as scaled_types}
-use Rattle.net_model.specs.Validity.{is_good_kind, kind_holds, is_number_of, type_read, is_earlier, argument_agrees, reads_earlier, arguments_agree, is_built_item, item_reads_earlier, item_agrees, item_in_range, is_good_wire, are_good_from, are_distinct, are_distinct_outs, is_valid, IsValid}
+use Rattle.net_model.specs.Validity.{is_good_kind, kind_holds, is_number_of, is_of_sort, takes_form, wires_earlier, wires_agree, form_agrees, numbers_fit, is_built_item, item_reads_earlier, item_agrees, item_in_range, is_good_wire, are_good_from, are_distinct, are_distinct_outs, is_valid, IsValid}
 
 -- the conditions, one by one
 pub record Conditions (net : NetData) : Type 0 where
@@ -59,7 +59,7 @@ conditions net h =
     let ends = and_parts (list_any (λ w. is_input w.item) net.wires) (nat_lt 0 (length net.outs)) p.5 in
     record { few = p.0; distinct = p.1; good = p.2; outs_there = p.3; outs_distinct = p.4; has_input = ends.0; has_output = ends.1 }
 
--- a valid network has at most 512 net
+-- a valid network has at most 512 wires
 pub length-valid : (net : NetData) → IsValid net → length net.wires ≤ 512
 length-valid net h = leb-true _ _ (conditions net h).few
 
@@ -155,27 +155,81 @@ abbrev pub IsGoodArgument : NetData → ℕ → WireNo → Option Ty → WireNo 
 IsGoodArgument net i first (Some ty) a = IsArgument net i ty a
 IsGoodArgument net i first None a = a.0 ≡ first.0
 
-good_argument : (net : NetData) (i : ℕ) (first : WireNo) (ty : Option Ty) (a : WireNo) → is_earlier i ty a.0 ≡ true → argument_agrees net first.0 ty a.0 ≡ true → IsGoodArgument net i first ty a
-good_argument net i first (Some ty) a e h = record { earlier = ltb-true _ _ e; number = h }
-good_argument net i first None a e h = eqb-true _ _ h
+-- ---- a block, by its form
 
--- each routine has a first argument, which is an earlier wire
-first_earlier : (net : NetData) (i : ℕ) (op : ArithOp) (v : Variant) (x : WireNo) → IsGoodArgument net i x (slice_get (argument_types op v) 0) x → x.0 < i
-first_earlier net i MulDiv v x g = g.earlier
-first_earlier net i Abs v x g = g.earlier
-first_earlier net i Limit v x g = g.earlier
-first_earlier net i Min v x g = g.earlier
-first_earlier net i Max v x g = g.earlier
-first_earlier net i RateLimiter v x g = g.earlier
-first_earlier net i other v x g = g.earlier
+-- what the tests say of a block
+pub record IsGoodBlock (net : NetData) (i : ℕ) (kind : Kind) (b : Block) : Type 0 where
+  pub built : is_built (form_of b).routine ≡ true
+  pub taken : takes_form (form_of b) ≡ true
+  pub earlier : wires_earlier i (form_of b).wires ≡ true
+  pub agree : wires_agree net.wires (signature_in (form_of b)).sorts (form_of b).wires ≡ true
+  pub gives : is_of_sort (signature_in (form_of b)).gives kind ≡ true
+  pub repeats : repeats_first b ≡ true
+  pub fits : numbers_fit (form_of b) ≡ true
+  pub adds : adds_no_number b ≡ true
 
--- and so is what repeats it
+pub good_block : (net : NetData) (i : ℕ) (name : List ℕ) (kind : Kind) (b : Block) → IsGoodWire net i name kind (OfBlock b) → IsGoodBlock net i kind b
+good_block net i name kind b h =
+    let form = form_of b in
+    let agreed = and_parts (form_agrees net kind form) (repeats_first b) h.agreed in
+    let outer = and_parts (takes_form form && wires_agree net.wires (signature_in form).sorts form.wires) (is_of_sort (signature_in form).gives kind) agreed.0 in
+    let inner = and_parts (takes_form form) (wires_agree net.wires (signature_in form).sorts form.wires) outer.0 in
+    let numbers = and_parts (numbers_fit form) (adds_no_number b) h.in_range in
+    record { built = h.built; taken = inner.0; earlier = h.earlier; agree = inner.1; gives = outer.1; repeats = agreed.1; fits = numbers.0; adds = numbers.1 }
+
+pub block-valid : (net : NetData) (i : ℕ) (b : Block) → IsValid net → i < length net.wires → (wire_at net.wires i).item ≡ OfBlock b → IsGoodBlock net i (wire_at net.wires i).kind b
+block-valid net i b h lt e = good_block net i (wire_at net.wires i).name (wire_at net.wires i).kind b (good_item-valid net i (OfBlock b) h lt e)
+
+-- ---- its arguments
+
+first_below : (i : ℕ) (wires : List WireNo) → 1 ≤ length wires → wires_earlier i wires ≡ true → (first_of wires).0 < i
+first_below i [] some h = absurd (omega arith)
+first_below i (w ∷ wires) some h = ltb-true w.0 i (and_parts (nat_lt w.0 i) (wires_earlier i wires) h).0
+
+first_taken : (n : ℕ) (wires : List WireNo) → 1 ≤ n → first_of (take n wires) ≡ first_of wires
+first_taken zero wires some = absurd (omega arith)
+first_taken (suc n) [] some = refl
+first_taken (suc n) (w ∷ wires) some = refl
+
 below_along : (a b i : ℕ) → a ≡ b → b < i → a < i
 below_along a b i e h = omega arith
 
-argument_earlier : (net : NetData) (i : ℕ) (first : WireNo) (ty : Option Ty) (a : WireNo) → first.0 < i → IsGoodArgument net i first ty a → a.0 < i
-argument_earlier net i first (Some ty) a h g = g.earlier
-argument_earlier net i first None a h g = below_along _ _ _ g h
+-- where the first of some wires are below a number, and the rest is one that is, so is what stands at any place
+below_at : (i : ℕ) (first d : WireNo) (wires : List WireNo) (n p : ℕ) → first.0 < i → d.0 < i → wires_earlier i (take n wires) ≡ true → list_all (λ w. w.0 == first.0) (drop n wires) ≡ true → (get_or wires p d).0 < i
+below_at i first d [] n zero below other h r = other
+below_at i first d [] n (suc p) below other h r = other
+below_at i first d (w ∷ wires) zero zero below other h r = below_along w.0 first.0 i (eqb-true w.0 first.0 (and_parts (w.0 == first.0) (list_all (λ w. w.0 == first.0) wires) r).0) below
+below_at i first d (w ∷ wires) zero (suc p) below other h r = below_at i first d wires zero p below other refl (and_parts (w.0 == first.0) (list_all (λ w. w.0 == first.0) wires) r).1
+below_at i first d (w ∷ wires) (suc n) zero below other h r = ltb-true w.0 i (and_parts (nat_lt w.0 i) (wires_earlier i (take n wires)) h).0
+below_at i first d (w ∷ wires) (suc n) (suc p) below other h r = below_at i first d wires n p below other (and_parts (nat_lt w.0 i) (wires_earlier i (take n wires)) h).1 r
+
+-- each argument of a block is an earlier wire
+argument_of-good : (net : NetData) (i : ℕ) (kind : Kind) (b : Block) → IsGoodBlock net i kind b → (p : ℕ) → argument_of b p < i
+unfolding form_of
+argument_of-good net i kind b g p =
+    let sorts = (signature_in (form_of b)).sorts in
+    let wires = (form_of b).wires in
+    let some : 1 ≤ length sorts = reads_some (form_of b).routine (form_of b).types g.built in
+    let count : length sorts ≡ length wires = same_lengths (λ sort w. is_of_sort sort (wire_at net.wires w.0).kind) sorts wires g.agree in
+    let first : (first_of wires).0 < i = first_below i wires (omega (arith, some, count)) g.earlier in
+    let same : first_of wires ≡ first_of (held_by b).wires = first_taken (length sorts) (held_by b).wires some in
+    below_at i (first_of wires) (first_of (held_by b).wires) (held_by b).wires (length sorts) p first (below_along _ _ i (ap (λ w. w.0) (sym same)) first) g.earlier g.repeats
+
+-- an argument of number wires is an earlier wire of its type, and one that the routine doesn't have repeats the first
+good_argument : (net : NetData) (i : ℕ) (first d : WireNo) (types : List Ty) (wires : List WireNo) (p : ℕ) → wires_earlier i (take (length (map Number types)) wires) ≡ true → wires_agree net.wires (map Number types) (take (length (map Number types)) wires) ≡ true
+    → list_all (λ w. w.0 == first.0) (drop (length (map Number types)) wires) ≡ true → p < length wires → IsGoodArgument net i first (slice_get types p) (get_or wires p d)
+good_argument net i first d [] [] p e a r lt = absurd (omega arith)
+good_argument net i first d [] (w ∷ wires) zero e a r lt = eqb-true w.0 first.0 (and_parts (w.0 == first.0) (list_all (λ w. w.0 == first.0) wires) r).0
+good_argument net i first d [] (w ∷ wires) (suc p) e a r lt = good_argument net i first d [] wires p e a (and_parts (w.0 == first.0) (list_all (λ w. w.0 == first.0) wires) r).1 (omega arith)
+good_argument net i first d (t ∷ types) [] p e a r lt = absurd (omega arith)
+good_argument net i first d (t ∷ types) (w ∷ wires) zero e a r lt =
+    let rest = take (length (map Number types)) wires in
+    record { earlier = ltb-true w.0 i (and_parts (nat_lt w.0 i) (wires_earlier i rest) e).0; number = (and_parts (is_number_of t (wire_at net.wires w.0).kind) (wires_agree net.wires (map Number types) rest) a).0 }
+good_argument net i first d (t ∷ types) (w ∷ wires) (suc p) e a r lt =
+    let rest = take (length (map Number types)) wires in
+    good_argument net i first d types wires p (and_parts (nat_lt w.0 i) (wires_earlier i rest) e).1 (and_parts (is_number_of t (wire_at net.wires w.0).kind) (wires_agree net.wires (map Number types) rest) a).1 r (omega arith)
+
+-- ---- a block, by its family
 
 -- a block of Mfx arithmetic: its operation is built and takes its types, its arguments are good and earlier wires, and
 -- its count of places is one of the operation
@@ -191,45 +245,29 @@ pub record IsGoodArith (net : NetData) (i : ℕ) (kind : Kind) (op : ArithOp) (v
   pub shift : is_shift op sh ≡ true
   pub output : is_number_of v.o kind ≡ true
 
--- what the tests say of three arguments
-record AreGoodArguments (net : NetData) (i : ℕ) (b : Block) (x y z : WireNo) : Type 0 where
-  pub first : IsGoodArgument net i x (type_read b 0) x
-  pub second : IsGoodArgument net i x (type_read b 1) y
-  pub third : IsGoodArgument net i x (type_read b 2) z
-
-three_arguments : (net : NetData) (i : ℕ) (b : Block) (x y z : WireNo) → argument_of b 0 ≡ x.0 → argument_of b 1 ≡ y.0 → argument_of b 2 ≡ z.0 → reads_earlier i b ≡ true → arguments_agree net b ≡ true → AreGoodArguments net i b x y z
-three_arguments net i b x y z ex ey ez early fit =
-    let e1 = and_parts _ _ early in
-    let e2 = and_parts _ _ e1.0 in
-    let f1 = and_parts _ _ fit in
-    let f2 = and_parts _ _ f1.0 in
+good_arith : (net : NetData) (i : ℕ) (kind : Kind) (op : ArithOp) (v : Variant) (x y z : WireNo) (sh : ℕ) → IsGoodBlock net i kind (Arith op v x y z sh) → IsGoodArith net i kind op v x y z sh
+unfolding form_of signature_of
+good_arith net i kind op v x y z sh g =
+    let b = Arith op v x y z sh in
+    let types = argument_types op v in
+    let wires = x ∷ y ∷ z ∷ [] in
+    let same : first_of (form_of b).wires ≡ x = first_taken (length (map Number types)) wires (reads_some (routine.Arith op) v g.built) in
+    let repeats = subst (λ (w : WireNo). list_all (λ o. o.0 == w.0) (drop (length (map Number types)) wires) ≡ true) same g.repeats in
     record {
-      first = good_argument net i x (type_read b 0) x (subst (λ (a : ℕ). is_earlier i (type_read b 0) a ≡ true) ex e2.0) (subst (λ (a : ℕ). argument_agrees net a (type_read b 0) a ≡ true) ex f2.0);
-      second = good_argument net i x (type_read b 1) y (subst (λ (a : ℕ). is_earlier i (type_read b 1) a ≡ true) ey e2.1) (subst (λ (a : ℕ). argument_agrees net x.0 (type_read b 1) a ≡ true) ey (subst (λ (a : ℕ). argument_agrees net a (type_read b 1) (argument_of b 1) ≡ true) ex f2.1));
-      third = good_argument net i x (type_read b 2) z (subst (λ (a : ℕ). is_earlier i (type_read b 2) a ≡ true) ez e1.1) (subst (λ (a : ℕ). argument_agrees net x.0 (type_read b 2) a ≡ true) ez (subst (λ (a : ℕ). argument_agrees net a (type_read b 2) (argument_of b 2) ≡ true) ex f1.1));
-    }
-
-good_arith : (net : NetData) (i : ℕ) (name : List ℕ) (kind : Kind) (op : ArithOp) (v : Variant) (x y z : WireNo) (sh : ℕ) → IsGoodWire net i name kind (OfBlock (Arith op v x y z sh)) → IsGoodArith net i kind op v x y z sh
-good_arith net i name kind op v x y z sh h =
-    let a1 = and_parts _ _ h.agreed in
-    let a2 = and_parts _ _ a1.0 in
-    let args = three_arguments net i (Arith op v x y z sh) x y z refl refl refl h.earlier a2.1 in
-    let x_below = first_earlier net i op v x args.first in
-    record {
-      built = h.built;
-      taken = (taken op v).0 a2.0;
-      first = args.first;
-      second = args.second;
-      third = args.third;
-      earlier_x = x_below;
-      earlier_y = argument_earlier _ _ _ _ y x_below args.second;
-      earlier_z = argument_earlier _ _ _ _ z x_below args.third;
-      shift = h.in_range;
-      output = a1.1;
+      built = g.built;
+      taken = (taken op v).0 g.taken;
+      first = good_argument net i x x types wires 0 g.earlier g.agree repeats (omega arith);
+      second = good_argument net i x x types wires 1 g.earlier g.agree repeats (omega arith);
+      third = good_argument net i x x types wires 2 g.earlier g.agree repeats (omega arith);
+      earlier_x = argument_of-good net i kind b g 0;
+      earlier_y = argument_of-good net i kind b g 1;
+      earlier_z = argument_of-good net i kind b g 2;
+      shift = shift_of_ranges op sh g.fits g.adds;
+      output = g.gives;
     }
 
 pub arith-valid : (net : NetData) (i : ℕ) (op : ArithOp) (v : Variant) (x y z : WireNo) (sh : ℕ) → IsValid net → i < length net.wires → (wire_at net.wires i).item ≡ OfBlock (Arith op v x y z sh) → IsGoodArith net i (wire_at net.wires i).kind op v x y z sh
-arith-valid net i op v x y z sh h lt e = good_arith _ _ _ _ op _ _ _ _ _ (good_item-valid net i (OfBlock (Arith op v x y z sh)) h lt e)
+arith-valid net i op v x y z sh h lt e = good_arith net i (wire_at net.wires i).kind op v x y z sh (block-valid net i (Arith op v x y z sh) h lt e)
 
 -- a block with binary points, likewise
 pub record IsGoodScaled (net : NetData) (i : ℕ) (kind : Kind) (op : ScaledOp) (v : Variant) (x y : WireNo) : Type 0 where
@@ -239,40 +277,27 @@ pub record IsGoodScaled (net : NetData) (i : ℕ) (kind : Kind) (op : ScaledOp) 
   pub earlier_y : y.0 < i
   pub output : is_number_of v.o kind ≡ true
 
--- each form has a first argument
-first_scaled_earlier : (net : NetData) (i : ℕ) (op : ScaledOp) (v : Variant) (x : WireNo) → IsGoodArgument net i x (slice_get (scaled_types op v) 0) x → x.0 < i
-first_scaled_earlier net i Convert v x g = g.earlier
-first_scaled_earlier net i other v x g = g.earlier
-
-good_scaled : (net : NetData) (i : ℕ) (name : List ℕ) (kind : Kind) (op : ScaledOp) (v : Variant) (x y : WireNo) → IsGoodWire net i name kind (OfBlock (Scaled op v x y)) → IsGoodScaled net i kind op v x y
-good_scaled net i name kind op v x y h =
-    let a1 = and_parts _ _ h.agreed in
-    let a2 = and_parts _ _ a1.0 in
-    let args = three_arguments net i (Scaled op v x y) x y x refl refl refl h.earlier a2.1 in
-    let x_below = first_scaled_earlier net i op v x args.first in
+good_scaled : (net : NetData) (i : ℕ) (kind : Kind) (op : ScaledOp) (v : Variant) (x y : WireNo) → IsGoodBlock net i kind (Scaled op v x y) → IsGoodScaled net i kind op v x y
+unfolding form_of signature_of
+good_scaled net i kind op v x y g =
+    let b = Scaled op v x y in
+    let types = scaled_types op v in
+    let wires = x ∷ y ∷ [] in
+    let same : first_of (form_of b).wires ≡ x = first_taken (length (map Number types)) wires (reads_some (routine.Scaled op) v g.built) in
+    let repeats = subst (λ (w : WireNo). list_all (λ o. o.0 == w.0) (drop (length (map Number types)) wires) ≡ true) same g.repeats in
     record {
-      first = args.first;
-      second = args.second;
-      earlier_x = x_below;
-      earlier_y = argument_earlier _ _ _ _ y x_below args.second;
-      output = a1.1;
+      first = good_argument net i x x types wires 0 g.earlier g.agree repeats (omega arith);
+      second = good_argument net i x x types wires 1 g.earlier g.agree repeats (omega arith);
+      earlier_x = argument_of-good net i kind b g 0;
+      earlier_y = argument_of-good net i kind b g 1;
+      output = g.gives;
     }
 
 pub scaled-valid : (net : NetData) (i : ℕ) (op : ScaledOp) (v : Variant) (x y : WireNo) → IsValid net → i < length net.wires → (wire_at net.wires i).item ≡ OfBlock (Scaled op v x y) → IsGoodScaled net i (wire_at net.wires i).kind op v x y
-scaled-valid net i op v x y h lt e = good_scaled _ _ _ _ op _ _ _ (good_item-valid net i (OfBlock (Scaled op v x y)) h lt e)
-
--- each argument of a block is an earlier wire
-argument_of-good : (net : NetData) (i : ℕ) (name : List ℕ) (kind : Kind) (b : Block) → IsGoodWire net i name kind (OfBlock b) → (p : ℕ) → argument_of b p < i
-argument_of-good net i name kind (Arith op v x y z sh) h zero = (good_arith net i name kind op v x y z sh h).earlier_x
-argument_of-good net i name kind (Arith op v x y z sh) h (suc zero) = (good_arith net i name kind op v x y z sh h).earlier_y
-argument_of-good net i name kind (Arith op v x y z sh) h (suc (suc zero)) = (good_arith net i name kind op v x y z sh h).earlier_z
-argument_of-good net i name kind (Arith op v x y z sh) h (suc (suc (suc p))) = (good_arith net i name kind op v x y z sh h).earlier_x
-argument_of-good net i name kind (Scaled op v x y) h zero = (good_scaled net i name kind op v x y h).earlier_x
-argument_of-good net i name kind (Scaled op v x y) h (suc zero) = (good_scaled net i name kind op v x y h).earlier_y
-argument_of-good net i name kind (Scaled op v x y) h (suc (suc p)) = (good_scaled net i name kind op v x y h).earlier_x
+scaled-valid net i op v x y h lt e = good_scaled net i (wire_at net.wires i).kind op v x y (block-valid net i (Scaled op v x y) h lt e)
 
 pub argument_of-valid : (net : NetData) (i : ℕ) (b : Block) → IsValid net → i < length net.wires → (wire_at net.wires i).item ≡ OfBlock b → (p : ℕ) → argument_of b p < i
-argument_of-valid net i b h lt e p = argument_of-good _ _ _ _ b (good_item-valid net i (OfBlock b) h lt e) p
+argument_of-valid net i b h lt e p = argument_of-good net i (wire_at net.wires i).kind b (block-valid net i b h lt e) p
 
 -- each output is a wire
 pub outs-valid : (net : NetData) → IsValid net → list_all (λ o. nat_lt o.0 (length net.wires)) net.outs ≡ true

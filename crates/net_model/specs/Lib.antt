@@ -1,6 +1,8 @@
-pub mod Wires
 pub mod NameMap
 pub mod Built
+pub mod Signatures
+pub mod BlockForms
+pub mod Wires
 pub mod Validity
 pub mod Smooth
 pub mod Faults

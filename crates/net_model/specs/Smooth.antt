@@ -1,17 +1,15 @@
 -- Smooth networks: those that certificates are for.
 use Rattle.std.specs.Prelude.{◌≡◌, ℕ, ◌<◌, Bool, true, false, List, length, IsTrue}
-use Rattle.mfx_arith.specs.Operations.{is_smooth_operation}
 use Rattle.net_model.specs.declared.wires.Item.{Item}
 use Rattle.net_model.specs.declared.wires.Item.TheVariants.{Input, Const, Block as OfBlock}
 use Rattle.net_model.specs.declared.wires.Block.{Block}
-use Rattle.net_model.specs.declared.wires.Block.TheVariants.{Arith, Scaled}
 use Rattle.net_model.specs.declared.wires.Wire.{Wire}
+use Rattle.net_model.specs.BlockForms.{form_of, signature_in}
 use Rattle.net_model.specs.Wires.{wire_at}
 
 -- a block is smooth: it doesn't switch, look up, or take a remainder or bits
 abbrev pub is_smooth_block : Block → Bool
-is_smooth_block (Arith op v x y z shift) = is_smooth_operation op
-is_smooth_block (Scaled op v x y) = true
+is_smooth_block b = (signature_in (form_of b)).smooth
 
 -- so is a wire, where its block is; one without a block is
 abbrev pub is_smooth : Item → Bool

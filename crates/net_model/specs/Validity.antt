@@ -1,28 +1,28 @@
 -- When a network is valid.
-use Rattle.std.specs.Prelude.{ℕ, ◌+◌, Bool, true, false, not, ◌&&◌, List, [], ◌∷◌, map, length, ℤ, int_le, IsTrue, nat_le, nat_lt, ◌==◌, bytes_eq, slice_get, Option, Some, None}
+use Rattle.std.specs.Prelude.{ℕ, ◌+◌, Bool, true, false, not, ◌&&◌, List, [], ◌∷◌, map, length, ℤ, int_le, IsTrue, nat_le, nat_lt, ◌==◌, bytes_eq}
 use Rattle.std.specs.List.{list_any, list_all}
 use Rattle.text_words.specs.Names.{is_name}
 use Rattle.fx_core.specs.declared.word_type.Ty.{Ty}
-use Rattle.fx_routines.specs.declared.table.Routine.TheVariants as routine
 use Rattle.fx_routines.specs.Names.{takes}
 use Rattle.fx_routines.specs.Variants.{same_type}
-use Rattle.mfx_arith.specs.Operations.{argument_types}
 use Rattle.net_model.specs.declared.wires.Kind.{Kind}
-use Rattle.net_model.specs.declared.wires.Kind.TheVariants.{Num, Truth}
+use Rattle.net_model.specs.declared.wires.Kind.TheVariants.{Num, Truth as TruthKind}
 use Rattle.net_model.specs.declared.wires.Block.{Block}
-use Rattle.net_model.specs.declared.wires.Block.TheVariants.{Arith, Scaled}
 use Rattle.net_model.specs.declared.wires.Item.{Item}
 use Rattle.net_model.specs.declared.wires.Item.TheVariants.{Input, Const, Block as OfBlock}
 use Rattle.net_model.specs.declared.wires.Wire.{Wire}
 use Rattle.net_model.specs.declared.wires.WireNo.{WireNo}
-use Rattle.mfx_scaled.specs.Operations.{argument_types as scaled_types}
-use Rattle.net_model.specs.Built.{is_built, is_shift}
-use Rattle.net_model.specs.Wires.{NetData, wire_at, kind_least, kind_greatest, argument_of, is_input}
+use Rattle.net_model.specs.declared.signatures.Sort.{Sort}
+use Rattle.net_model.specs.declared.signatures.Sort.TheVariants.{Number, Truth}
+use Rattle.net_model.specs.declared.block_forms.Form.{Form}
+use Rattle.net_model.specs.Built.{is_built}
+use Rattle.net_model.specs.BlockForms.{both, in_ranges, form_of, signature_in, repeats_first, adds_no_number}
+use Rattle.net_model.specs.Wires.{NetData, wire_at, kind_least, kind_greatest, is_input}
 
 -- a binary point is at most 15
 abbrev pub is_good_kind : Kind → Bool
 is_good_kind (Num ty point) = nat_le point 15
-is_good_kind Truth = true
+is_good_kind TruthKind = true
 
 -- a value of a kind
 abbrev pub kind_holds : Kind → ℤ → Bool
@@ -31,69 +31,54 @@ kind_holds kind v = int_le (kind_least kind) v && int_le v (kind_greatest kind)
 -- a number wire of a type
 abbrev pub is_number_of : Ty → Kind → Bool
 is_number_of ty (Num t point) = same_type ty t
-is_number_of ty Truth = false
+is_number_of ty TruthKind = false
 
--- ---- blocks, one equation a family
+-- a wire of a sort
+abbrev pub is_of_sort : Sort → Kind → Bool
+is_of_sort (Number ty) kind = is_number_of ty kind
+is_of_sort Truth (Num ty point) = false
+is_of_sort Truth TruthKind = true
+
+-- ---- blocks, by their forms
 
 -- networks can have the block's routine as a block
 abbrev pub is_built_block : Block → Bool
-is_built_block (Arith op v x y z shift) = is_built (routine.Arith op)
-is_built_block (Scaled op v x y) = is_built (routine.Scaled op)
+is_built_block b = is_built (form_of b).routine
 
--- the types of the wires that a block reads, in their order
-abbrev pub types_read : Block → List Ty
-types_read (Arith op v x y z shift) = argument_types op v
-types_read (Scaled op v x y) = scaled_types op v
+-- there is a routine of the form's types: a row of the table of names
+abbrev pub takes_form : Form → Bool
+takes_form form = takes form.routine form.types
 
--- there is a routine of the block's types: a row of the table of names
-abbrev pub takes_block : Block → Bool
-takes_block (Arith op v x y z shift) = takes (routine.Arith op) v
-takes_block (Scaled op v x y) = takes (routine.Scaled op) v
+-- each wire of a form is earlier than wire i
+abbrev pub wires_earlier : ℕ → List WireNo → Bool
+wires_earlier i wires = list_all (λ w. nat_lt w.0 i) wires
 
--- the type that a block gives
-abbrev pub output_type : Block → Ty
-output_type (Arith op v x y z shift) = v.o
-output_type (Scaled op v x y) = v.o
+-- there is one wire for each sort, of that sort
+abbrev pub wires_agree : List Wire → List Sort → List WireNo → Bool
+wires_agree all = both (λ sort w. is_of_sort sort (wire_at all w.0).kind)
 
--- the numbers that a block is given beside its wires lie in their ranges
-abbrev pub has_good_numbers : Block → Bool
-has_good_numbers (Arith op v x y z shift) = is_shift op shift
-has_good_numbers (Scaled op v x y) = true
+-- the types of a form, of its wires and of the wire that it gives agree
+abbrev pub form_agrees : NetData → Kind → Form → Bool
+form_agrees net kind form =
+    takes_form form
+    && wires_agree net.wires (signature_in form).sorts form.wires
+    && is_of_sort (signature_in form).gives kind
 
--- ---- what a block of wire i reads
+-- the numbers of a form lie in their ranges
+abbrev pub numbers_fit : Form → Bool
+numbers_fit form = in_ranges (signature_in form).ranges form.numbers
 
--- the type of argument number p of a block, from 0; none where the routine doesn't have it
-abbrev pub type_read : Block → ℕ → Option Ty
-type_read b p = slice_get (types_read b) p
-
--- an argument that the routine has is an earlier wire
-abbrev pub is_earlier : ℕ → Option Ty → ℕ → Bool
-is_earlier i (Some ty) a = nat_lt a i
-is_earlier i None a = true
-
--- an argument agrees with its routine: one that the routine has is a number wire of its type; one that it doesn't have
--- repeats the first
-abbrev pub argument_agrees : NetData → ℕ → Option Ty → ℕ → Bool
-argument_agrees net first (Some ty) a = is_number_of ty (wire_at net.wires a).kind
-argument_agrees net first None a = a == first
-
--- each argument is an earlier wire
+-- each wire that a block of wire i reads is an earlier one
 abbrev pub reads_earlier : ℕ → Block → Bool
-reads_earlier i b =
-    is_earlier i (type_read b 0) (argument_of b 0)
-    && is_earlier i (type_read b 1) (argument_of b 1)
-    && is_earlier i (type_read b 2) (argument_of b 2)
+reads_earlier i b = wires_earlier i (form_of b).wires
 
--- each argument agrees with its routine
-abbrev pub arguments_agree : NetData → Block → Bool
-arguments_agree net b =
-    argument_agrees net (argument_of b 0) (type_read b 0) (argument_of b 0)
-    && argument_agrees net (argument_of b 0) (type_read b 1) (argument_of b 1)
-    && argument_agrees net (argument_of b 0) (type_read b 2) (argument_of b 2)
-
--- the types of a block, of its arguments and of its wire agree
+-- a block agrees where its form does; a wire that it holds beyond those that its routine has repeats the first
 abbrev pub agrees : NetData → Kind → Block → Bool
-agrees net kind b = takes_block b && arguments_agree net b && is_number_of (output_type b) kind
+agrees net kind b = form_agrees net kind (form_of b) && repeats_first b
+
+-- the numbers of a block lie in their ranges; one that it holds beyond those that its routine has is 0
+abbrev pub has_good_numbers : Block → Bool
+has_good_numbers b = numbers_fit (form_of b) && adds_no_number b
 
 -- ---- items and wires
 

@@ -1,5 +1,5 @@
 -- A network as data, and what is read off its wires without running it.
-use Rattle.std.specs.Prelude.{ℕ, zero, suc, ◌+◌, Bool, true, false, List, [], ◌∷◌, ◌++◌, map, length, get_or, take, ℤ, pos, count_by, ◌&&◌, ◌==◌, Option, Some, None, position, bytes_eq, if◌then◌else◌}
+use Rattle.std.specs.Prelude.{ℕ, suc, ◌+◌, Bool, true, false, List, [], ◌∷◌, ◌++◌, map, length, get_or, take, ℤ, pos, count_by, ◌&&◌, ◌==◌, Option, Some, None, position, bytes_eq, if◌then◌else◌}
 use Rattle.fx_core.specs.declared.word_type.Ty.TheVariants.{U8}
 use Rattle.fx_core.specs.Types.{least_of, greatest_of}
 use Rattle.net_model.specs.declared.wires.WireNo.{WireNo}
@@ -7,13 +7,13 @@ use Rattle.net_model.specs.declared.wires.PartNo.{PartNo}
 use Rattle.net_model.specs.declared.wires.Kind.{Kind}
 use Rattle.net_model.specs.declared.wires.Kind.TheVariants.{Num, Truth}
 use Rattle.net_model.specs.declared.wires.Block.{Block}
-use Rattle.net_model.specs.declared.wires.Block.TheVariants.{Arith, Scaled}
 use Rattle.net_model.specs.declared.wires.Item.{Item}
 use Rattle.net_model.specs.declared.wires.Item.TheVariants.{Input, Const, Block as OfBlock}
 use Rattle.net_model.specs.declared.wires.Role.{Role}
 use Rattle.net_model.specs.declared.wires.Role.TheVariants.{Value}
 use Rattle.net_model.specs.declared.wires.Part.{Part}
 use Rattle.net_model.specs.declared.wires.Wire.{Wire}
+use Rattle.net_model.specs.BlockForms.{held_by, wire_or_first}
 
 -- a network: its wires in order, and its output wires in the order of printing
 pub record NetData : Type 0 where
@@ -57,13 +57,7 @@ point_of Truth = 0
 
 -- argument number p of a block, from 0, as the number of a wire; behind the last one the first
 abbrev pub argument_of : Block → ℕ → ℕ
-argument_of (Arith op v x y z shift) zero = x.0
-argument_of (Arith op v x y z shift) (suc zero) = y.0
-argument_of (Arith op v x y z shift) (suc (suc zero)) = z.0
-argument_of (Arith op v x y z shift) (suc (suc (suc p))) = x.0
-argument_of (Scaled op v x y) zero = x.0
-argument_of (Scaled op v x y) (suc zero) = y.0
-argument_of (Scaled op v x y) (suc (suc p)) = x.0
+argument_of b p = (wire_or_first (held_by b).wires p).0
 
 -- whether a wire is an input
 abbrev pub is_input : Item → Bool

@@ -1,134 +1,124 @@
-// The conditions of blocks, one arm a family: a draft and a line of a text make the same tests.
+// The conditions of blocks, over their forms: a draft and a line of a text make the same tests.
 
 ghost use Rattle.std.specs.Prelude.{◌≡◌};
-ghost use Rattle.net_model.specs.Wires.{argument_of, wire_at};
+ghost use Rattle.net_model.specs.BlockForms.{in_range, in_ranges};
+ghost use Rattle.net_model.specs.Wires.{wire_at};
 ghost use Rattle.net_model.specs.Drafts.{data_of};
-ghost use Rattle.net_model.specs.Validity.{agrees, arguments_agree, has_good_numbers, is_built_block, is_earlier, argument_agrees, is_good_kind, is_number_of, kind_holds, reads_earlier, takes_block, output_type, type_read};
+ghost use Rattle.net_model.specs.Validity.{agrees, form_agrees, has_good_numbers, is_built_block, is_good_kind, is_of_sort, kind_holds, numbers_fit, reads_earlier, wires_agree, wires_earlier};
 
-use crate::built::{ArgumentTypes, argument_types, is_built, is_shift, scaled_types};
+use crate::block_forms::{Form, adds_no_number, form_of, repeats_first};
+use crate::built::is_built;
 use crate::network::Draft;
+use crate::signatures::{Range, Sort, signature_of};
 use crate::wires::{Block, Kind, Wire, WireNo};
 use fx_core::Ty;
-use fx_routines::{Routine, takes};
+use fx_routines::takes;
 
 // The greatest binary point.
 const GREATEST_POINT: u8 = 15;
-
-/// The wires that a block is given. One that its routine doesn't have repeats the first.
-#[derive(Clone, Copy)]
-pub struct Arguments {
-    pub x: WireNo,
-    pub y: WireNo,
-    pub z: WireNo,
-}
-
-/// The wires that a block is given.
-pub fn arguments_of(block: Block) -> Arguments
-    ensures x { result.x.0 ≡ argument_of block 0 }
-    ensures y { result.y.0 ≡ argument_of block 1 }
-    ensures z { result.z.0 ≡ argument_of block 2 }
-{
-    match block {
-        Block::Arith { x, y, z, .. } => Arguments { x, y, z },
-        Block::Scaled { x, y, .. } => Arguments { x, y, z: x },
-    }
-}
-
-/// The types of the wires that a block reads.
-pub fn types_read(block: Block) -> ArgumentTypes
-    ensures x { result.x ≡ type_read block 0 }
-    ensures y { result.y ≡ type_read block 1 }
-    ensures z { result.z ≡ type_read block 2 }
-{
-    match block {
-        Block::Arith { op, v, .. } => argument_types(op, v),
-        Block::Scaled { op, v, .. } => scaled_types(op, v),
-    }
-}
 
 /// Whether networks can have the block's routine as a block.
 pub fn is_built_block(block: Block) -> bool
     ensures { result ≡ is_built_block block }
 {
-    match block {
-        Block::Arith { op, .. } => is_built(Routine::Arith(op)),
-        Block::Scaled { op, .. } => is_built(Routine::Scaled(op)),
-    }
+    is_built(form_of(block).routine)
 }
 
-// Whether there is a routine of the block's types.
-fn takes_block(block: Block) -> bool
-    ensures { result ≡ takes_block block }
+/// Whether each wire that a block of wire `i` reads is an earlier one.
+pub fn reads_earlier(i: usize, block: Block) -> bool
+    ensures { result ≡ reads_earlier i block }
 {
-    match block {
-        Block::Arith { op, v, .. } => takes(Routine::Arith(op), v.types()),
-        Block::Scaled { op, v, .. } => takes(Routine::Scaled(op), v.types()),
-    }
+    wires_earlier(i, form_of(block).wires.as_slice())
 }
 
-// The type that a block gives.
-fn output_type(block: Block) -> Ty
-    ensures { result ≡ output_type block }
+fn wires_earlier(i: usize, wires: &[WireNo]) -> bool
+    ensures { result ≡ wires_earlier i wires.now }
 {
-    match block {
-        Block::Arith { v, .. } => v.o(),
-        Block::Scaled { v, .. } => v.o(),
-    }
+    wires.iter().all(|wire| (wire.0 as usize) < i)
 }
 
-/// Whether the numbers that a block is given beside its wires lie in their ranges.
-pub fn has_good_numbers(block: Block) -> bool
-    ensures { result ≡ has_good_numbers block }
-{
-    match block {
-        Block::Arith { op, sh, .. } => is_shift(op, sh),
-        Block::Scaled { .. } => true,
-    }
-}
-
-/// Whether each argument that the routine of wire `i` has is an earlier wire.
-pub fn reads_earlier(i: usize, block: &Block) -> bool
-    ensures { result ≡ reads_earlier i block.now }
-{
-    let types = types_read(*block);
-    let Arguments { x, y, z } = arguments_of(*block);
-    is_earlier(i, types.x, x) && is_earlier(i, types.y, y) && is_earlier(i, types.z, z)
-}
-
-fn is_earlier(i: usize, ty: Option<Ty>, argument: WireNo) -> bool
-    ensures { result ≡ is_earlier i ty argument.0 }
-{
-    match ty {
-        Some(_) => (argument.0 as usize) < i,
-        None => true,
-    }
-}
-
-/// Whether the types of a block, of its arguments and of its wire agree.
+/// Whether a block agrees with the wires that it reads and with the kind of its own.
 pub fn agrees(draft: &Draft, kind: Kind, block: &Block) -> bool
     ensures { result ≡ agrees (data_of draft.now) kind block.now }
 {
-    takes_block(*block) && arguments_agree(draft, block) && is_number_of(output_type(*block), kind)
+    form_agrees(draft, kind, &form_of(*block)) && repeats_first(block)
 }
 
-fn arguments_agree(draft: &Draft, block: &Block) -> bool
-    ensures { result ≡ arguments_agree (data_of draft.now) block.now }
+/// Whether the types of a form, of its wires and of the wire that it gives agree.
+pub fn form_agrees(draft: &Draft, kind: Kind, form: &Form) -> bool
+    ensures { result ≡ form_agrees (data_of draft.now) kind form.now }
 {
-    let types = types_read(*block);
-    let Arguments { x, y, z } = arguments_of(*block);
-    argument_agrees(draft, x, types.x, x)
-        && argument_agrees(draft, x, types.y, y)
-        && argument_agrees(draft, x, types.z, z)
+    let signature = signature_of(form.routine, form.types);
+    takes(form.routine, form.types)
+        && wires_agree(
+            &draft.wires,
+            signature.sorts.as_slice(),
+            form.wires.as_slice(),
+        )
+        && is_of_sort(signature.gives, kind)
 }
 
-// An argument of the type that the routine takes there; one that it doesn't have repeats the first.
-fn argument_agrees(draft: &Draft, first: WireNo, ty: Option<Ty>, argument: WireNo) -> bool
-    ensures { result ≡ argument_agrees (data_of draft.now) first.0 ty argument.0 }
+// Whether there is one wire for each sort, of that sort.
+#[tactic(auto, using(crate::proofs::SideBySide::other_count))]
+fn wires_agree(all: &[Wire], sorts: &[Sort], wires: &[WireNo]) -> bool
+    ensures { result ≡ wires_agree all.now sorts.now wires.now }
 {
-    match ty {
-        Some(ty) => is_number_of(ty, kind_of(&draft.wires, argument)),
-        None => argument.0 == first.0,
+    if sorts.len() != wires.len() {
+        return false;
     }
+    for i in 0..sorts.len() {
+        if !is_of_sort(sorts[i], kind_of(all, wires[i])) {
+            return false;
+        }
+    }
+    true
+}
+
+fn is_of_sort(sort: Sort, kind: Kind) -> bool
+    ensures { result ≡ is_of_sort sort kind }
+{
+    match (sort, kind) {
+        (Sort::Number(ty), Kind::Num(number, _)) => ty == number,
+        (Sort::Truth, Kind::Truth) => true,
+        _ => false,
+    }
+}
+
+/// Whether the numbers of a block lie in their ranges. One that its routine doesn't have is 0.
+pub fn has_good_numbers(block: &Block) -> bool
+    ensures { result ≡ has_good_numbers block.now }
+{
+    numbers_fit(&form_of(*block)) && adds_no_number(block)
+}
+
+fn numbers_fit(form: &Form) -> bool
+    ensures { result ≡ numbers_fit form.now }
+{
+    let signature = signature_of(form.routine, form.types);
+    in_ranges(signature.ranges.as_slice(), form.numbers.as_slice())
+}
+
+/// Whether there is one number for each range, in that range.
+#[tactic(auto, using(crate::proofs::SideBySide::other_count))]
+pub fn in_ranges(ranges: &[Range], numbers: &[i64]) -> bool
+    ensures { result ≡ in_ranges ranges.now numbers.now }
+{
+    if ranges.len() != numbers.len() {
+        return false;
+    }
+    for i in 0..ranges.len() {
+        if !in_range(ranges[i], numbers[i]) {
+            return false;
+        }
+    }
+    true
+}
+
+/// Whether a number lies in a range.
+pub fn in_range(range: Range, number: i64) -> bool
+    ensures { result ≡ in_range range number }
+{
+    i64::from(range.low) <= number && number <= i64::from(range.high)
 }
 
 // The kind of a wire. A number past the last is looked at as `u8`.
@@ -138,15 +128,6 @@ fn kind_of(wires: &[Wire], wire: WireNo) -> Kind
     match wires.get(wire.0 as usize) {
         Some(wire) => wire.kind,
         None => Kind::Num(Ty::U8, 0),
-    }
-}
-
-fn is_number_of(ty: Ty, kind: Kind) -> bool
-    ensures { result ≡ is_number_of ty kind }
-{
-    match kind {
-        Kind::Num(number, _) => ty == number,
-        Kind::Truth => false,
     }
 }
 

@@ -113,7 +113,7 @@ fn item_reads_earlier(i: usize, item: Item) -> bool
 {
     match item {
         Item::Input { .. } | Item::Const { .. } => true,
-        Item::Block(block) => reads_earlier(i, &block),
+        Item::Block(block) => reads_earlier(i, block),
     }
 }
 
@@ -132,7 +132,7 @@ fn item_in_range(kind: Kind, item: Item) -> bool
     match item {
         Item::Input { lo, hi } => is_range(kind, lo, hi),
         Item::Const { value } => kind_holds(kind, value),
-        Item::Block(block) => has_good_numbers(block),
+        Item::Block(block) => has_good_numbers(&block),
     }
 }
 

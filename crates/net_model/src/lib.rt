@@ -2,6 +2,7 @@
 // tests of each wire in their order, which the reader of a network's text makes too.
 #![tactic(auto)]
 
+mod block_forms;
 mod built;
 mod conditions;
 mod draft_checks;
@@ -9,13 +10,18 @@ mod laws;
 mod naming;
 mod network;
 mod numbering;
+mod rooms;
+mod signatures;
 mod smoothness;
 mod wires;
 
-pub use built::{ArgumentTypes, GREATEST_SHIFT, argument_types, has_shift, is_built, scaled_types};
-pub use conditions::{Arguments, agrees, arguments_of, kind_holds, types_read};
+pub use block_forms::{Form, block_of, form_of};
+pub use built::is_built;
+pub use conditions::{form_agrees, in_range, kind_holds};
 pub use draft_checks::{MOST_WIRES, has_ends, is_range};
 pub use laws::law_of_drafts;
 pub use naming::{Name, NameFault};
 pub use network::{Draft, NetKind, NetRefusal, Network};
+pub use rooms::Few;
+pub use signatures::{Range, Signature, Sort, signature_of};
 pub use wires::{Block, Item, Kind, Part, PartNo, Role, Wire, WireNo};

@@ -123,6 +123,14 @@ impl Network {
         ensures refused { IfErr result (IsRefusedFor (data_of draft)) }
     {
         check_draft(&draft)?;
+        Ok(Network::of_valid(alloc, draft)?)
+    }
+
+    /// The network of a draft that is known to be valid, with nothing tested.
+    pub fn of_valid(alloc: Global, draft: Draft) -> Result<Network, AllocError>
+        requires { IsValid (data_of draft) }
+        ensures { IfOk result (λ net. net ≡ data_of draft) }
+    {
         let inputs = input_numbers(alloc, &draft.wires)?;
         let parts = part_list(alloc, &draft.wires)?;
         let firsts = first_parts(alloc, &draft.wires)?;

@@ -2,8 +2,9 @@
 ghost use Rattle.std.specs.Prelude.{◌≡◌, ◌<◌, ◌^◌, IfNone, IfSome, length};
 ghost use Rattle.net_model.specs.Smooth.{IsFirstRough, IsSmooth, is_smooth, is_smooth_block};
 
+use crate::block_forms::form_of;
+use crate::signatures::signature_of;
 use crate::wires::{Block, Item, Wire, WireNo};
-use mfx_arith::ArithOp;
 
 /// The first wire whose block isn't smooth, if there is one.
 pub fn first_rough(wires: &[Wire]) -> Option<WireNo>
@@ -27,8 +28,6 @@ fn is_smooth(item: Item) -> bool
 fn is_smooth_block(block: Block) -> bool
     ensures { result ≡ is_smooth_block block }
 {
-    match block {
-        Block::Arith { op, .. } => op != ArithOp::Mod,
-        Block::Scaled { .. } => true,
-    }
+    let form = form_of(block);
+    signature_of(form.routine, form.types).smooth
 }

@@ -1,41 +1,44 @@
 -- What a line that has no fault gives: a good wire of a fresh name, or an output that isn't one yet.
-use Rattle.std.proofs.Common.{◌≡◌, ℕ, suc, ◌+◌, ◌-◌, ◌*◌, Bool, true, false, not, ◌&&◌, ◌||◌, ◌==◌, cond, nat_le, nat_lt, List, [], ◌∷◌, length, take, drop, codes, bytes_eq, refl, sym, ap, subst, ◌∙◌, ℤ, pos, int_le, Option, Some, None, Result, Ok, Err, arith}
-use Rattle.std.specs.Prelude.{ok_or, is_some, option_map, option_and_then, unsigned_abs, if◌then◌else◌}
+use Rattle.std.proofs.Common.{◌≡◌, ℕ, suc, ◌+◌, ◌-◌, ◌*◌, Bool, true, false, not, ◌&&◌, ◌||◌, ◌==◌, cond, nat_le, nat_lt, List, [], ◌∷◌, ◌++◌, length, take, drop, codes, bytes_eq, refl, sym, ap, ap₂, subst, ◌∙◌, ℤ, int_le, Option, Some, None, Result, Ok, Err, arith, append_assoc, append-nil}
+use Rattle.std.specs.Prelude.{ok_or, is_some, option_map, option_and_then}
 use Rattle.std.specs.Char.{is_ascii_digit}
 use Rattle.std.specs.List.{list_any, position_or_len}
 use Rattle.std.proofs.lemmas.Bool.Decides.{nat_tests}
+use Rattle.std.proofs.lemmas.List.Folds.{list_all-append}
 use Rattle.text_words.specs.Lines.{nth}
 use Rattle.text_words.specs.Names.{is_name}
 use Rattle.text_words.specs.Numbers.{digit_of}
 use Rattle.text_words.specs.Steps.{◌>>=◌, demand}
 use Rattle.fx_core.specs.declared.word_type.Ty.{Ty}
-use Rattle.fx_routines.specs.declared.operation.ArithOp.{ArithOp}
-use Rattle.fx_routines.specs.declared.operation.ArithOp.TheVariants.{MulShRight, DivShLeft}
 use Rattle.fx_routines.specs.declared.operation.Types.{Types}
-use Rattle.fx_routines.specs.declared.table.Routine.{Routine as Named}
-use Rattle.fx_routines.specs.declared.table.Routine.TheVariants.{Arith as NamedArith, Scaled as NamedScaled}
+use Rattle.fx_routines.specs.declared.table.Routine.{Routine}
 use Rattle.fx_routines.specs.Reading.{named}
 use Rattle.net_model.specs.declared.network.NetKind.{NetKind}
-use Rattle.net_model.specs.declared.network.NetKind.TheVariants.{BadLine, BadName, Repeated, BadType, UnknownRoutine, NotBuilt, BadCount, UnknownName, LaterWire, TypeDiffers, OutOfRange, TooMany}
+use Rattle.net_model.specs.declared.network.NetKind.TheVariants.{BadLine, BadName, Repeated, BadType, UnknownRoutine, NotBuilt, BadCount, UnknownName, LaterWire, TypeDiffers, BadNumber, OutOfRange, TooMany}
 use Rattle.net_model.specs.declared.wires.WireNo.{WireNo}
 use Rattle.net_model.specs.declared.wires.Kind.{Kind}
 use Rattle.net_model.specs.declared.wires.Kind.TheVariants.{Num, Truth}
-use Rattle.net_model.specs.declared.wires.Block.{Block}
 use Rattle.net_model.specs.declared.wires.Item.{Item}
 use Rattle.net_model.specs.declared.wires.Item.TheVariants.{Input, Const, Block as OfBlock}
 use Rattle.net_model.specs.declared.wires.Wire.{Wire}
+use Rattle.net_model.specs.declared.signatures.Sort.{Sort}
+use Rattle.net_model.specs.declared.signatures.Range.{Range}
+use Rattle.net_model.specs.declared.signatures.Signature.{Signature}
+use Rattle.net_model.specs.declared.block_forms.Form.{Form}
 use Rattle.net_text.specs.declared.keyword.Keyword.{Keyword}
 use Rattle.net_text.specs.declared.keyword.Keyword.TheVariants.{InLine, ConstLine, AxisLine, AxisStepLine, AxisShiftLine, TableLine, MapLine, WireLine, DelayLine}
-use Rattle.net_text.specs.declared.routine_word.Routine.{Routine}
-use Rattle.net_text.specs.declared.routine_word.Routine.TheVariants.{ArithOf, ScaledOf}
-use Rattle.net_text.specs.declared.routine_word.Arguments.{Arguments}
 use Rattle.net_text.specs.declared.line_forms.Content.{Content}
-use Rattle.net_model.specs.Wires.{place_of}
-use Rattle.net_model.specs.Built.{has_shift, is_built, is_shift}
-use Rattle.net_model.specs.Validity.{is_among, is_good_kind, kind_holds, has_good_numbers, agrees, is_earlier, type_read, is_built_item, item_reads_earlier, item_agrees, item_in_range}
+use Rattle.net_text.specs.declared.line_forms.Given.{Given}
+use Rattle.net_model.specs.Wires.{NetData, wire_at, place_of}
+use Rattle.net_model.specs.Built.{is_built}
+use Rattle.net_model.specs.Signatures.{signature_of}
+use Rattle.net_model.specs.BlockForms.{in_range as is_in_range, in_ranges, signature_in, form_of, block_of, repeats_first, adds_no_number}
+use Rattle.net_model.specs.Validity.{is_among, is_good_kind, kind_holds, is_of_sort, takes_form, wires_earlier, wires_agree, form_agrees, numbers_fit, is_built_item, item_reads_earlier, item_agrees, item_in_range}
+use Rattle.net_model.proofs.SideBySide.{same_lengths}
+use Rattle.net_model.proofs.FormInverses.{IsFull, block_of_full}
 use Rattle.net_text.specs.TypeWords.{ty_of, ty_len, one_digit, two_digits, point_of_word, number_kind_of, kind_of}
-use Rattle.net_text.specs.RoutineWords.{at_types, routine_at, arity_of, block_of}
-use Rattle.net_text.specs.Forms.{keyword_of, is_wire, are_known, axis_passes, is_type, is_narrow, argument_at, arguments_of, shift_at, shift_of, words_wanted, wire_above, fresh, has_room, number_at, input_of, const_of, kind_at, agreed, in_line, const_line, wire_line, unbuilt_line, line_of, is_known, is_output, out_line, defining_line}
+use Rattle.net_text.specs.RoutineWords.{routine_at}
+use Rattle.net_text.specs.Forms.{keyword_of, is_wire, are_known, axis_passes, is_type, is_narrow, wire_above, wire_named, wires_named, are_numbers, number_in, numbers_in, fresh, has_room, number_at, input_of, const_of, kind_at, agreed, in_line, const_line, given_line, wire_line, unbuilt_line, line_of, is_known, is_output, out_line, defining_line}
 
 -- ---- tests
 
@@ -153,53 +156,42 @@ unfolding kind_of number_kind_of
 kind_good word kind h =
     bool_or_number (bytes_eq word (codes "bool")) (option_and_then (λ t. option_map (λ p. Num t p) (point_of_word (drop (ty_len word) word))) (ty_of (take (ty_len word) word))) kind (λ k e. num_good (ty_of (take (ty_len word) word)) (point_of_word (drop (ty_len word) word)) k (point_good (drop (ty_len word) word)) e) h
 
+-- ---- steps
+
+-- what comes first gives what the rest goes on with
+bind_ok : {A B E : Type 0} (r : Result A E) (f : A → Result B E) (b : B) → (r >>= f) ≡ Ok b → (a : A) × (r ≡ Ok a) × (f a ≡ Ok b)
+bind_ok (Ok a) f b h = (a, refl, h)
+bind_ok (Err e) f b h = absurd (cc)
+
+same_ok : {A E : Type 0} (a b : A) → ◌≡◌ {A = Result A E} (Ok a) (Ok b) → a ≡ b
+same_ok a b h = cc
+
 -- ---- routines
 
--- networks can have the routine as a block
-abbrev is_built_routine : Routine → Bool
-is_built_routine (ArithOf op v) = is_built (NamedArith op)
-is_built_routine (ScaledOf op v) = is_built (NamedScaled op)
-
--- at its types it is built as before
-at_types_built : (found : Named) (types : Types) (routine : Routine) → is_built found ≡ true → at_types found types ≡ Ok routine
-    → is_built_routine routine ≡ true
-at_types_built (NamedArith op) types routine built h =
-    let same : ArithOf op types ≡ routine = cc in subst (λ r. is_built_routine r ≡ true) same built
-at_types_built (NamedScaled op) types routine built h =
-    let same : ScaledOf op types ≡ routine = cc in subst (λ r. is_built_routine r ≡ true) same built
-at_types_built other types routine built h = cc
-
-built_test : (found : Named) (types : Types) (routine : Routine) (built : Bool) → is_built found ≡ built
-    → (demand built NotBuilt >>= λ _. at_types found types) ≡ Ok routine → is_built_routine routine ≡ true
-built_test found types routine true e h = at_types_built found types routine e h
-built_test found types routine false e h = cc
-
-built_tests : (found : Result (Named × Types) NetKind) (routine : Routine)
-    → (found >>= λ r. demand (is_built r.0) NotBuilt >>= λ _. at_types r.0 r.1) ≡ Ok routine → is_built_routine routine ≡ true
-built_tests (Err fault) routine h = cc
-built_tests (Ok r) routine h = built_test r.0 r.1 routine (is_built r.0) refl h
-
 -- a name is read as a routine that is built
-routine_built : (word : List ℕ) (routine : Routine) → routine_at word ≡ Ok routine → is_built_routine routine ≡ true
+routine_built : (word : List ℕ) (found : Routine × Types) → routine_at word ≡ Ok found → is_built found.0 ≡ true
 unfolding routine_at
-routine_built word routine h = built_tests (ok_or (named word) UnknownRoutine) routine h
+routine_built word found h =
+    let r = bind_ok (ok_or (named word) UnknownRoutine) (λ f. demand (is_built f.0) NotBuilt >>= λ _. Ok f) found h in
+    let d = bind_ok (demand (is_built r.0.0) NotBuilt) (λ _. Ok r.0) found r.2 in
+    subst (λ f. is_built f.0 ≡ true) (same_ok r.0 found d.2) (demand_ok (is_built r.0.0) NotBuilt d.0 d.1)
 
 -- ---- forms
 
 -- an item that is good behind these wires, in a wire of this kind
-pub record IsGoodItem (wires : List Wire) (kind : Kind) (item : Item) : Type 0 where
+pub record IsGoodItem (net : NetData) (kind : Kind) (item : Item) : Type 0 where
   pub built : is_built_item item ≡ true
-  pub earlier : item_reads_earlier (length wires) item ≡ true
-  pub agreed : item_agrees wires kind item ≡ true
+  pub earlier : item_reads_earlier (length net.wires) item ≡ true
+  pub agreed : item_agrees net kind item ≡ true
   pub in_range : item_in_range kind item ≡ true
 
 -- what a line gives a wire that is good behind the wires above, with a name that none of them has
-pub record IsGood (wires : List Wire) (name : List ℕ) (content : Content) : Type 0 where
+pub record IsGood (net : NetData) (name : List ℕ) (content : Content) : Type 0 where
   pub named : is_name name ≡ true
-  pub fresh : is_wire wires name ≡ false
-  pub room : nat_lt (length wires) 512 ≡ true
+  pub fresh : is_wire net.wires name ≡ false
+  pub room : nat_lt (length net.wires) 512 ≡ true
   pub kind : is_good_kind content.kind ≡ true
-  pub item : IsGoodItem wires content.kind content.item
+  pub item : IsGoodItem net content.kind content.item
 
 -- a name that no wire above has
 record IsFresh (wires : List Wire) (name : List ℕ) : Type 0 where
@@ -218,292 +210,302 @@ fresh_ok wires name done h =
     let p = fresh_tests (is_name name) (is_wire wires name) done h in record { named = p.0; fresh = p.1 }
 
 -- an input's range, and a constant, are good in their kind
-range_in : (wires : List Wire) (kind : Kind) (lo hi : ℤ) (test : Bool) (item : Item) → (kind_holds kind lo && kind_holds kind hi && int_le lo hi) ≡ test → (demand test OutOfRange >>= λ _. Ok (Input lo hi)) ≡ Ok item → IsGoodItem wires kind item
-range_in wires kind lo hi true item e h =
+range_in : (net : NetData) (kind : Kind) (lo hi : ℤ) (test : Bool) (item : Item) → (kind_holds kind lo && kind_holds kind hi && int_le lo hi) ≡ test → (demand test OutOfRange >>= λ _. Ok (Input lo hi)) ≡ Ok item → IsGoodItem net kind item
+range_in net kind lo hi true item e h =
     let same : Input lo hi ≡ item = cc in
-    let good : IsGoodItem wires kind (Input lo hi) = record { built = refl; earlier = refl; agreed = refl; in_range = e } in
-    subst (λ x. IsGoodItem wires kind x) same good
-range_in wires kind lo hi false item e h = cc
+    let good : IsGoodItem net kind (Input lo hi) = record { built = refl; earlier = refl; agreed = refl; in_range = e } in
+    subst (λ x. IsGoodItem net kind x) same good
+range_in net kind lo hi false item e h = cc
 
 -- both numbers are there
-range_tests : (wires : List Wire) (kind : Kind) (low high : Result ℤ NetKind) (item : Item) → (low >>= λ lo. high >>= λ hi. demand (kind_holds kind lo && kind_holds kind hi && int_le lo hi) OutOfRange >>= λ _. Ok (Input lo hi)) ≡ Ok item → IsGoodItem wires kind item
-range_tests wires kind (Err fault) high item h = cc
-range_tests wires kind (Ok lo) (Err fault) item h = cc
-range_tests wires kind (Ok lo) (Ok hi) item h =
-    range_in wires kind lo hi (kind_holds kind lo && kind_holds kind hi && int_le lo hi) item refl h
+range_tests : (net : NetData) (kind : Kind) (low high : Result ℤ NetKind) (item : Item) → (low >>= λ lo. high >>= λ hi. demand (kind_holds kind lo && kind_holds kind hi && int_le lo hi) OutOfRange >>= λ _. Ok (Input lo hi)) ≡ Ok item → IsGoodItem net kind item
+range_tests net kind (Err fault) high item h = cc
+range_tests net kind (Ok lo) (Err fault) item h = cc
+range_tests net kind (Ok lo) (Ok hi) item h =
+    range_in net kind lo hi (kind_holds kind lo && kind_holds kind hi && int_le lo hi) item refl h
 
 -- the range of an input is good
-input_good : (wires : List Wire) (kind : Kind) (low high : List ℕ) (item : Item) → input_of kind low high ≡ Ok item → IsGoodItem wires kind item
+input_good : (net : NetData) (kind : Kind) (low high : List ℕ) (item : Item) → input_of kind low high ≡ Ok item → IsGoodItem net kind item
 unfolding input_of
-input_good wires kind low high item h = range_tests wires kind (number_at low) (number_at high) item h
+input_good net kind low high item h = range_tests net kind (number_at low) (number_at high) item h
 
 -- the value lies in its kind
-value_in : (wires : List Wire) (kind : Kind) (value : ℤ) (test : Bool) (item : Item) → kind_holds kind value ≡ test → (demand test OutOfRange >>= λ _. Ok (Const value)) ≡ Ok item → IsGoodItem wires kind item
-value_in wires kind value true item e h =
+value_in : (net : NetData) (kind : Kind) (value : ℤ) (test : Bool) (item : Item) → kind_holds kind value ≡ test → (demand test OutOfRange >>= λ _. Ok (Const value)) ≡ Ok item → IsGoodItem net kind item
+value_in net kind value true item e h =
     let same : Const value ≡ item = cc in
-    let good : IsGoodItem wires kind (Const value) = record { built = refl; earlier = refl; agreed = refl; in_range = e } in
-    subst (λ x. IsGoodItem wires kind x) same good
-value_in wires kind value false item e h = cc
+    let good : IsGoodItem net kind (Const value) = record { built = refl; earlier = refl; agreed = refl; in_range = e } in
+    subst (λ x. IsGoodItem net kind x) same good
+value_in net kind value false item e h = cc
 
 -- the number is there
-value_tests : (wires : List Wire) (kind : Kind) (number : Result ℤ NetKind) (item : Item) → (number >>= λ value. demand (kind_holds kind value) OutOfRange >>= λ _. Ok (Const value)) ≡ Ok item → IsGoodItem wires kind item
-value_tests wires kind (Err fault) item h = cc
-value_tests wires kind (Ok value) item h = value_in wires kind value (kind_holds kind value) item refl h
+value_tests : (net : NetData) (kind : Kind) (number : Result ℤ NetKind) (item : Item) → (number >>= λ value. demand (kind_holds kind value) OutOfRange >>= λ _. Ok (Const value)) ≡ Ok item → IsGoodItem net kind item
+value_tests net kind (Err fault) item h = cc
+value_tests net kind (Ok value) item h = value_in net kind value (kind_holds kind value) item refl h
 
 -- the value of a constant is good
-const_of_good : (wires : List Wire) (kind : Kind) (word : List ℕ) (item : Item) → const_of kind word ≡ Ok item → IsGoodItem wires kind item
+const_of_good : (net : NetData) (kind : Kind) (word : List ℕ) (item : Item) → const_of kind word ≡ Ok item → IsGoodItem net kind item
 unfolding const_of
-const_of_good wires kind word item h = value_tests wires kind (number_at word) item h
+const_of_good net kind word item h = value_tests net kind (number_at word) item h
 
 -- an input's line and a constant's have one shape
-content_end : (wires : List Wire) (name : List ℕ) (room : Result (Unit {0}) NetKind) (kind : Kind) (item : Result Item NetKind) (content : Content) → IsFresh wires name → is_good_kind kind ≡ true → ((x : Item) → item ≡ Ok x → IsGoodItem wires kind x) → ((done : Unit {0}) → room ≡ Ok done → nat_lt (length wires) 512 ≡ true) → (item >>= λ x. room >>= λ _. Ok (record { kind = kind; item = x })) ≡ Ok content → IsGood wires name content
-content_end wires name room kind (Err fault) content new good i r h = cc
-content_end wires name (Err fault) kind (Ok item) content new good i r h = cc
-content_end wires name (Ok done) kind (Ok item) content new good i r h =
+content_end : (net : NetData) (name : List ℕ) (room : Result (Unit {0}) NetKind) (kind : Kind) (item : Result Item NetKind) (content : Content) → IsFresh net.wires name → is_good_kind kind ≡ true → ((x : Item) → item ≡ Ok x → IsGoodItem net kind x) → ((done : Unit {0}) → room ≡ Ok done → nat_lt (length net.wires) 512 ≡ true) → (item >>= λ x. room >>= λ _. Ok (record { kind = kind; item = x })) ≡ Ok content → IsGood net name content
+content_end net name room kind (Err fault) content new good i r h = cc
+content_end net name (Err fault) kind (Ok item) content new good i r h = cc
+content_end net name (Ok done) kind (Ok item) content new good i r h =
     let made : Content = record { kind = kind; item = item } in
     let same : made ≡ content = cc in
-    let first : IsGood wires name made = record { named = new.named; fresh = new.fresh; room = r done refl; kind = good; item = i item refl } in
-    subst (λ c. IsGood wires name c) same first
+    let first : IsGood net name made = record { named = new.named; fresh = new.fresh; room = r done refl; kind = good; item = i item refl } in
+    subst (λ c. IsGood net name c) same first
 
 -- from the front on
-content_tests : (wires : List Wire) (name : List ℕ) (form new room : Result (Unit {0}) NetKind) (kind : Result Kind NetKind) (item : Kind → Result Item NetKind) (content : Content) → ((done : Unit {0}) → new ≡ Ok done → IsFresh wires name) → ((k : Kind) → kind ≡ Ok k → is_good_kind k ≡ true) → ((k : Kind) (x : Item) → item k ≡ Ok x → IsGoodItem wires k x) → ((done : Unit {0}) → room ≡ Ok done → nat_lt (length wires) 512 ≡ true) → (form >>= λ _. new >>= λ _. kind >>= λ k. item k >>= λ x. room >>= λ _. Ok (record { kind = k; item = x })) ≡ Ok content → IsGood wires name content
-content_tests wires name (Err fault) new room kind item content f g i r h = cc
-content_tests wires name (Ok _) (Err fault) room kind item content f g i r h = cc
-content_tests wires name (Ok _) (Ok new) room (Err fault) item content f g i r h = cc
-content_tests wires name (Ok _) (Ok new) room (Ok kind) item content f g i r h =
-    content_end wires name room kind (item kind) content (f new refl) (g kind refl) (λ x e. i kind x e) r h
+content_tests : (net : NetData) (name : List ℕ) (form new room : Result (Unit {0}) NetKind) (kind : Result Kind NetKind) (item : Kind → Result Item NetKind) (content : Content) → ((done : Unit {0}) → new ≡ Ok done → IsFresh net.wires name) → ((k : Kind) → kind ≡ Ok k → is_good_kind k ≡ true) → ((k : Kind) (x : Item) → item k ≡ Ok x → IsGoodItem net k x) → ((done : Unit {0}) → room ≡ Ok done → nat_lt (length net.wires) 512 ≡ true) → (form >>= λ _. new >>= λ _. kind >>= λ k. item k >>= λ x. room >>= λ _. Ok (record { kind = k; item = x })) ≡ Ok content → IsGood net name content
+content_tests net name (Err fault) new room kind item content f g i r h = cc
+content_tests net name (Ok _) (Err fault) room kind item content f g i r h = cc
+content_tests net name (Ok _) (Ok new) room (Err fault) item content f g i r h = cc
+content_tests net name (Ok _) (Ok new) room (Ok kind) item content f g i r h =
+    content_end net name room kind (item kind) content (f new refl) (g kind refl) (λ x e. i kind x e) r h
 
 -- an input gives a good wire
-in_good : (wires : List Wire) (words : List (List ℕ)) (content : Content) → in_line wires words ≡ Ok content → IsGood wires (nth words 1) content
+in_good : (net : NetData) (words : List (List ℕ)) (content : Content) → in_line net.wires words ≡ Ok content → IsGood net (nth words 1) content
 unfolding in_line
-in_good wires words content h =
-    content_tests wires (nth words 1) (demand (length words == 5) BadLine) (fresh wires (nth words 1)) (has_room wires) (kind_at (nth words 2)) (λ k. input_of k (nth words 3) (nth words 4)) content (λ done e. fresh_ok wires (nth words 1) done e) (λ k e. kind_good (nth words 2) k (ok_or_ok (kind_of (nth words 2)) BadType k e)) (λ k x e. input_good wires k (nth words 3) (nth words 4) x e) (λ done e. demand_ok (nat_lt (length wires) 512) TooMany done e) h
+in_good net words content h =
+    content_tests net (nth words 1) (demand (length words == 5) BadLine) (fresh net.wires (nth words 1)) (has_room net.wires) (kind_at (nth words 2)) (λ k. input_of k (nth words 3) (nth words 4)) content (λ done e. fresh_ok net.wires (nth words 1) done e) (λ k e. kind_good (nth words 2) k (ok_or_ok (kind_of (nth words 2)) BadType k e)) (λ k x e. input_good net k (nth words 3) (nth words 4) x e) (λ done e. demand_ok (nat_lt (length net.wires) 512) TooMany done e) h
 
 -- a constant gives a good wire
-const_good : (wires : List Wire) (words : List (List ℕ)) (content : Content) → const_line wires words ≡ Ok content → IsGood wires (nth words 1) content
+const_good : (net : NetData) (words : List (List ℕ)) (content : Content) → const_line net.wires words ≡ Ok content → IsGood net (nth words 1) content
 unfolding const_line
-const_good wires words content h =
-    content_tests wires (nth words 1) (demand (length words == 4) BadLine) (fresh wires (nth words 1)) (has_room wires) (kind_at (nth words 2)) (λ k. const_of k (nth words 3)) content (λ done e. fresh_ok wires (nth words 1) done e) (λ k e. kind_good (nth words 2) k (ok_or_ok (kind_of (nth words 2)) BadType k e)) (λ k x e. const_of_good wires k (nth words 3) x e) (λ done e. demand_ok (nat_lt (length wires) 512) TooMany done e) h
+const_good net words content h =
+    content_tests net (nth words 1) (demand (length words == 4) BadLine) (fresh net.wires (nth words 1)) (has_room net.wires) (kind_at (nth words 2)) (λ k. const_of k (nth words 3)) content (λ done e. fresh_ok net.wires (nth words 1) done e) (λ k e. kind_good (nth words 2) k (ok_or_ok (kind_of (nth words 2)) BadType k e)) (λ k x e. const_of_good net k (nth words 3) x e) (λ done e. demand_ok (nat_lt (length net.wires) 512) TooMany done e) h
 
--- ---- a block
+-- ---- the wires of a form
 
--- the wires that a line gives its routine stand before it
-record AreGiven (wires : List Wire) (given : Arguments) : Type 0 where
-  x_below : nat_lt given.x.0 (length wires) ≡ true
-  y_below : nat_lt given.y.0 (length wires) ≡ true
-  z_below : nat_lt given.z.0 (length wires) ≡ true
+named_within : (wires : List Wire) (name : List ℕ) (w : WireNo) → wire_named wires name ≡ Ok w → nat_lt w.0 (length wires) ≡ true
+unfolding wire_named
+named_within wires name w h =
+    let r = bind_ok (wire_above wires name) (λ place. Ok (record { 0 = place })) w h in
+    let same : WireNo = record { 0 = r.0 } in
+    subst (λ w. nat_lt w.0 (length wires) ≡ true) (same_ok same w r.2) (place_within wires name r.0 (ok_or_ok (place_of wires name) LaterWire r.0 r.1))
 
--- what is found twice is one
-same_found : (m n : ℕ) → ◌≡◌ {A = Result ℕ NetKind} (Ok m) (Ok n) → m ≡ n
-same_found m n h = cc
+-- the wires that are named stand above
+named_earlier : (wires : List Wire) (so_far : List WireNo) (sorts : List Sort) (k : ℕ) (words : List (List ℕ)) (given : List WireNo) → wires_earlier (length wires) so_far ≡ true → wires_named wires so_far sorts k words ≡ Ok given → wires_earlier (length wires) given ≡ true
+unfolding wires_named
+named_earlier wires so_far [] k words given before h = subst (λ l. wires_earlier (length wires) l ≡ true) (same_ok so_far given h) before
+named_earlier wires so_far (s ∷ sorts) k words given before h =
+    let r = bind_ok (wire_named wires (nth words k)) (λ w. wires_named wires (so_far ++ w ∷ []) sorts (k + 1) words) given h in
+    let here = true_if_both (nat_lt r.0.0 (length wires)) true (named_within wires (nth words k) r.0 r.1) refl in
+    let more : wires_earlier (length wires) (so_far ++ r.0 ∷ []) ≡ true = list_all-append (λ w. nat_lt w.0 (length wires)) so_far (r.0 ∷ []) ∙ true_if_both (wires_earlier (length wires) so_far) (nat_lt r.0.0 (length wires) && true) before here in
+    named_earlier wires (so_far ++ r.0 ∷ []) sorts (k + 1) words given more r.2
 
--- all three are found
-arguments_made : (wires : List Wire) (x y z : Result ℕ NetKind) (given : Arguments) → ((m : ℕ) → x ≡ Ok m → nat_lt m (length wires) ≡ true) → ((m : ℕ) → y ≡ Ok m → nat_lt m (length wires) ≡ true) → ((m : ℕ) → z ≡ Ok m → nat_lt m (length wires) ≡ true) → (x >>= λ k. y >>= λ m. z >>= λ n. Ok (record { x = record { 0 = k }; y = record { 0 = m }; z = record { 0 = n } })) ≡ Ok given → AreGiven wires given
-arguments_made wires (Err fault) y z given bx by bz h = cc
-arguments_made wires (Ok k) (Err fault) z given bx by bz h = cc
-arguments_made wires (Ok k) (Ok m) (Err fault) given bx by bz h = cc
-arguments_made wires (Ok k) (Ok m) (Ok n) given bx by bz h =
-    let made : Arguments = record { x = record { 0 = k }; y = record { 0 = m }; z = record { 0 = n } } in
-    let same : made ≡ given = cc in
-    let first : AreGiven wires made = record { x_below = bx k refl; y_below = by m refl; z_below = bz n refl } in
-    subst (λ g. AreGiven wires g) same first
+-- ---- its numbers
 
--- a wire above is there
-wire_above_below : (wires : List Wire) (name : List ℕ) (place : ℕ) → wire_above wires name ≡ Ok place → nat_lt place (length wires) ≡ true
-wire_above_below wires name place h = place_within wires name place (ok_or_ok (place_of wires name) LaterWire place h)
+number_good : (range : Range) (word : List ℕ) (n : ℤ) → number_in range word ≡ Ok n → is_in_range range n ≡ true
+unfolding number_in
+number_good range word n h =
+    let r = bind_ok (number_at word) (λ number. demand (is_in_range range number) OutOfRange >>= λ _. Ok number) n h in
+    let d = bind_ok (demand (is_in_range range r.0) OutOfRange) (λ _. Ok r.0) n r.2 in
+    subst (λ m. is_in_range range m ≡ true) (same_ok r.0 n d.2) (demand_ok (is_in_range range r.0) OutOfRange d.0 d.1)
 
--- a line's arguments are there
-arguments_good : (wires : List Wire) (routine : Routine) (words : List (List ℕ)) (given : Arguments) → arguments_of wires routine words ≡ Ok given → AreGiven wires given
-unfolding arguments_of
-arguments_good wires routine words given h =
-    arguments_made wires (wire_above wires (argument_at routine words 0)) (wire_above wires (argument_at routine words 1)) (wire_above wires (argument_at routine words 2)) given (wire_above_below wires (argument_at routine words 0)) (wire_above_below wires (argument_at routine words 1)) (wire_above_below wires (argument_at routine words 2)) h
+numbers_behind : (so_far : List ℤ) (ranges : List Range) (k : ℕ) (words : List (List ℕ)) (numbers : List ℤ) → numbers_in so_far ranges k words ≡ Ok numbers → (tail : List ℤ) × (numbers ≡ so_far ++ tail) × (in_ranges ranges tail ≡ true)
+unfolding numbers_in
+numbers_behind so_far [] k words numbers h = ([], sym (same_ok so_far numbers h) ∙ sym (append-nil so_far), refl)
+numbers_behind so_far (range ∷ ranges) k words numbers h =
+    let r = bind_ok (number_in range (nth words k)) (λ n. numbers_in (so_far ++ n ∷ []) ranges (k + 1) words) numbers h in
+    let t = numbers_behind (so_far ++ r.0 ∷ []) ranges (k + 1) words numbers r.2 in
+    (r.0 ∷ t.0, t.1 ∙ append_assoc so_far (r.0 ∷ []) t.0, true_if_both (is_in_range range r.0) (in_ranges ranges t.0) (number_good range (nth words k) r.0 r.1) t.2)
 
--- a shift that was read is one of its operation
-shift_in : (op : ArithOp) (z : ℤ) (test : Bool) (sh : ℕ) → (int_le (pos 0) z && is_shift op (unsigned_abs z)) ≡ test → (demand test OutOfRange >>= λ _. Ok (unsigned_abs z)) ≡ Ok sh → is_shift op sh ≡ true
-shift_in op z true sh e h =
-    subst (λ n. is_shift op n ≡ true) (same_found (unsigned_abs z) sh h) (second_of_both (int_le (pos 0) z) (is_shift op (unsigned_abs z)) e)
-shift_in op z false sh e h = cc
+numbers_good : (ranges : List Range) (k : ℕ) (words : List (List ℕ)) (numbers : List ℤ) → numbers_in [] ranges k words ≡ Ok numbers → in_ranges ranges numbers ≡ true
+numbers_good ranges k words numbers h =
+    let t = numbers_behind [] ranges k words numbers h in ap (in_ranges ranges) t.1 ∙ t.2
 
-shift_tests : (op : ArithOp) (number : Result ℤ NetKind) (sh : ℕ) → (number >>= λ z. demand (int_le (pos 0) z && is_shift op (unsigned_abs z)) OutOfRange >>= λ _. Ok (unsigned_abs z)) ≡ Ok sh → is_shift op sh ≡ true
-shift_tests op (Err fault) sh h = cc
-shift_tests op (Ok z) sh h = shift_in op z (int_le (pos 0) z && is_shift op (unsigned_abs z)) sh refl h
+-- ---- its kind
 
-shift_at_good : (op : ArithOp) (word : List ℕ) (sh : ℕ) → shift_at op word ≡ Ok sh → is_shift op sh ≡ true
-unfolding shift_at
-shift_at_good op word sh h = shift_tests op (number_at word) sh h
-
-no_shift : (sh : ℕ) → ◌≡◌ {A = Result ℕ NetKind} (Ok 0) (Ok sh) → (sh == 0) ≡ true
-no_shift sh h = subst (λ n. (n == 0) ≡ true) (same_found 0 sh h) refl
-
--- so is the 0 of an operation that has none
-shift_or_none : (op : ArithOp) (found : Result ℕ NetKind) (sh : ℕ) → (found ≡ Ok sh → is_shift op sh ≡ true) → (if has_shift op then found else Ok 0) ≡ Ok sh → is_shift op sh ≡ true
-shift_or_none MulShRight found sh good h = good h
-shift_or_none DivShLeft found sh good h = good h
-shift_or_none other found sh good h = no_shift sh h
-
--- a routine's shift is one of its block
-shift_good : (routine : Routine) (words : List (List ℕ)) (given : Arguments) (sh : ℕ) → shift_of routine words ≡ Ok sh → has_good_numbers (block_of routine given sh) ≡ true
-unfolding shift_of
-shift_good (ArithOf op v) words given sh h =
-    let word = nth words (5 + arity_of (ArithOf op v)) in shift_or_none op (shift_at op word) sh (shift_at_good op word sh) h
-shift_good (ScaledOf op v) words given sh h = refl
-
--- an argument below is earlier, where the routine has it and where it doesn't
-earlier_below : (i a : ℕ) (ty : Option Ty) → nat_lt a i ≡ true → is_earlier i ty a ≡ true
-earlier_below i a (Some ty) below = below
-earlier_below i a None below = refl
-
--- a block of earlier wires that agrees with them, with numbers in their ranges, is good
-block_good : (wires : List Wire) (routine : Routine) (kind : Kind) (given : Arguments) (sh : ℕ) → is_built_routine routine ≡ true → AreGiven wires given → agrees wires kind (block_of routine given 0) ≡ true → has_good_numbers (block_of routine given sh) ≡ true → IsGoodItem wires kind (OfBlock (block_of routine given sh))
-block_good wires (ArithOf op v) kind given sh built g typed numbers =
-    let b = block_of (ArithOf op v) given sh in
-    record {
-      built = built;
-      earlier = true_if_both _ _ (true_if_both _ _ (earlier_below _ given.x.0 (type_read b 0) g.x_below) (earlier_below _ given.y.0 (type_read b 1) g.y_below)) (earlier_below _ given.z.0 (type_read b 2) g.z_below);
-      agreed = typed;
-      in_range = numbers;
-    }
-block_good wires (ScaledOf op v) kind given sh built g typed numbers =
-    let b = block_of (ScaledOf op v) given sh in
-    record {
-      built = built;
-      earlier = true_if_both _ _ (true_if_both _ _ (earlier_below _ given.x.0 (type_read b 0) g.x_below) (earlier_below _ given.y.0 (type_read b 1) g.y_below)) (earlier_below _ given.x.0 (type_read b 2) g.x_below);
-      agreed = typed;
-      in_range = refl;
-    }
-
--- the kind of the type word, which agrees with the block
-record IsAgreed (wires : List Wire) (block : Block) (word : List ℕ) (kind : Kind) : Type 0 where
+-- the kind of the type word, which agrees with the form
+record IsAgreed (net : NetData) (form : Form) (word : List ℕ) (kind : Kind) : Type 0 where
   found : kind_of word ≡ Some kind
-  typed : agrees wires kind block ≡ true
+  agrees : form_agrees net kind form ≡ true
 
--- the types agree
-agreed_end : (wires : List Wire) (block : Block) (word : List ℕ) (k kind : Kind) (test : Bool) → kind_of word ≡ Some k → agrees wires k block ≡ test → (demand test TypeDiffers >>= λ _. Ok k) ≡ Ok kind → IsAgreed wires block word kind
-agreed_end wires block word k kind true e t h =
-    let same : k ≡ kind = cc in
-    let first : IsAgreed wires block word k = record { found = e; typed = t } in
-    subst (λ x. IsAgreed wires block word x) same first
-agreed_end wires block word k kind false e t h = cc
-
--- the type is one of a number
-agreed_tests : (wires : List Wire) (block : Block) (word : List ℕ) (found : Option Kind) (kind : Kind) → kind_of word ≡ found → (ok_or found TypeDiffers >>= λ k. demand (agrees wires k block) TypeDiffers >>= λ _. Ok k) ≡ Ok kind → IsAgreed wires block word kind
-agreed_tests wires block word None kind e h = cc
-agreed_tests wires block word (Some k) kind e h = agreed_end wires block word k kind (agrees wires k block) e refl h
-
--- the type that a wire names is the one that its block gives
-agreed_good : (wires : List Wire) (block : Block) (word : List ℕ) (kind : Kind) → agreed wires block word ≡ Ok kind → IsAgreed wires block word kind
+agreed_good : (net : NetData) (form : Form) (word : List ℕ) (kind : Kind) → agreed net form word ≡ Ok kind → IsAgreed net form word kind
 unfolding agreed
-agreed_good wires block word kind h = agreed_tests wires block word (kind_of word) kind refl h
+agreed_good net form word kind h =
+    let r = bind_ok (ok_or (kind_of word) TypeDiffers) (λ k. demand (form_agrees net k form) TypeDiffers >>= λ _. Ok k) kind h in
+    let d = bind_ok (demand (form_agrees net r.0 form) TypeDiffers) (λ _. Ok r.0) kind r.2 in
+    let first : IsAgreed net form word r.0 = record { found = ok_or_ok (kind_of word) TypeDiffers r.0 r.1; agrees = demand_ok (form_agrees net r.0 form) TypeDiffers d.0 d.1 } in
+    subst (λ k. IsAgreed net form word k) (same_ok r.0 kind d.2) first
 
--- what a wire's line uses: a routine that is built, earlier wires, a type that agrees and numbers in their ranges
-record IsUsed (wires : List Wire) (routine : Routine) (word : List ℕ) (kind : Kind) (given : Arguments) (sh : ℕ) : Type 0 where
-  built : is_built_routine routine ≡ true
-  earlier : AreGiven wires given
-  typed : IsAgreed wires (block_of routine given 0) word kind
-  numbers : has_good_numbers (block_of routine given sh) ≡ true
+-- ---- the whole of it
 
--- from the shift on
-wire_made : (wires : List Wire) (name word : List ℕ) (routine : Routine) (given : Arguments) (k : Kind) (shift : Result ℕ NetKind) (room : Result (Unit {0}) NetKind) (content : Content) → IsFresh wires name → ((sh : ℕ) → shift ≡ Ok sh → IsUsed wires routine word k given sh) → ((done : Unit {0}) → room ≡ Ok done → nat_lt (length wires) 512 ≡ true) → (shift >>= λ sh. room >>= λ _. Ok (record { kind = k; item = OfBlock (block_of routine given sh) })) ≡ Ok content → IsGood wires name content
-wire_made wires name word routine given k (Err fault) room content new used r h = cc
-wire_made wires name word routine given k (Ok sh) (Err fault) content new used r h = cc
-wire_made wires name word routine given k (Ok sh) (Ok done) content new used r h =
-    let u = used sh refl in
-    let made : Content = record { kind = k; item = OfBlock (block_of routine given sh) } in
-    let same : made ≡ content = cc in
-    let first : IsGood wires name made = record {
-      named = new.named;
-      fresh = new.fresh;
-      room = r done refl;
-      kind = kind_good word k u.typed.found;
-      item = block_good wires routine k given sh u.built u.earlier u.typed.typed u.numbers;
-    } in
-    subst (λ c. IsGood wires name c) same first
+-- what the tests of a routine's line say of what it gives
+pub record IsGiven (net : NetData) (routine : Routine) (types : Types) (word : List ℕ) (given : Given) : Type 0 where
+  pub routine_is : given.form.routine ≡ routine
+  pub types_are : given.form.types ≡ types
+  pub earlier : wires_earlier (length net.wires) given.form.wires ≡ true
+  pub found : kind_of word ≡ Some given.kind
+  pub agrees : form_agrees net given.kind given.form ≡ true
+  pub fits : numbers_fit given.form ≡ true
+  pub room : nat_lt (length net.wires) 512 ≡ true
 
--- from the arguments on
-wire_typed : (wires : List Wire) (name word : List ℕ) (routine : Routine) (given : Arguments) (typed : Result Kind NetKind) (shift : Result ℕ NetKind) (room : Result (Unit {0}) NetKind) (content : Content) → IsFresh wires name → ((k : Kind) (sh : ℕ) → typed ≡ Ok k → shift ≡ Ok sh → IsUsed wires routine word k given sh) → ((done : Unit {0}) → room ≡ Ok done → nat_lt (length wires) 512 ≡ true) → (typed >>= λ k. shift >>= λ sh. room >>= λ _. Ok (record { kind = k; item = OfBlock (block_of routine given sh) })) ≡ Ok content → IsGood wires name content
-wire_typed wires name word routine given (Err fault) shift room content new used r h = cc
-wire_typed wires name word routine given (Ok k) shift room content new used r h =
-    wire_made wires name word routine given k shift room content new (λ sh. used k sh refl) r h
+-- what the steps of a routine's line gave
+record IsMade (routine : Routine) (types : Types) (wires : Result (List WireNo) NetKind) (kind : Form → Result Kind NetKind) (numbers : Result (List ℤ) NetKind) (room : Result (Unit {0}) NetKind) (given : Given) : Type 0 where
+  routine_is : given.form.routine ≡ routine
+  types_are : given.form.types ≡ types
+  wires_are : wires ≡ Ok given.form.wires
+  kind_is : kind (record { routine = routine; types = types; wires = given.form.wires; numbers = [] }) ≡ Ok given.kind
+  numbers_are : numbers ≡ Ok given.form.numbers
+  room_is : room ≡ Ok tt
 
--- from the routine on
-wire_end : (wires : List Wire) (name word : List ℕ) (routine : Routine) (count known axis : Result (Unit {0}) NetKind) (found : Result Arguments NetKind) (typed : Arguments → Result Kind NetKind) (shift : Result ℕ NetKind) (room : Result (Unit {0}) NetKind) (content : Content) → IsFresh wires name → ((given : Arguments) (k : Kind) (sh : ℕ) → found ≡ Ok given → typed given ≡ Ok k → shift ≡ Ok sh → IsUsed wires routine word k given sh) → ((done : Unit {0}) → room ≡ Ok done → nat_lt (length wires) 512 ≡ true) → (count >>= λ _. known >>= λ _. axis >>= λ _. found >>= λ given. typed given >>= λ k. shift >>= λ sh. room >>= λ _. Ok (record { kind = k; item = OfBlock (block_of routine given sh) })) ≡ Ok content → IsGood wires name content
-wire_end wires name word routine (Err fault) known axis found typed shift room content new used r h = cc
-wire_end wires name word routine (Ok _) (Err fault) axis found typed shift room content new used r h = cc
-wire_end wires name word routine (Ok _) (Ok _) (Err fault) found typed shift room content new used r h = cc
-wire_end wires name word routine (Ok _) (Ok _) (Ok _) (Err fault) typed shift room content new used r h = cc
-wire_end wires name word routine (Ok _) (Ok _) (Ok _) (Ok given) typed shift room content new used r h =
-    wire_typed wires name word routine given (typed given) shift room content new (λ k sh. used given k sh refl) r h
+-- once its wires are read
+made_of : (routine : Routine) (types : Types) (ws : List WireNo) (kind : Form → Result Kind NetKind) (typed : Result Kind NetKind) (are : Result (Unit {0}) NetKind) (numbers : Result (List ℤ) NetKind) (room : Result (Unit {0}) NetKind) (given : Given)
+    → kind (record { routine = routine; types = types; wires = ws; numbers = [] }) ≡ typed → (typed >>= λ k. are >>= λ _. numbers >>= λ ns. room >>= λ _. Ok (record { kind = k; form = record { routine = routine; types = types; wires = ws; numbers = ns } })) ≡ Ok given
+    → IsMade routine types (Ok ws) kind numbers room given
+made_of routine types ws kind (Err f) are numbers room given e h = absurd (cc)
+made_of routine types ws kind (Ok k) (Err f) numbers room given e h = absurd (cc)
+made_of routine types ws kind (Ok k) (Ok u) (Err f) room given e h = absurd (cc)
+made_of routine types ws kind (Ok k) (Ok u) (Ok ns) (Err f) given e h = absurd (cc)
+made_of routine types ws kind (Ok k) (Ok u) (Ok ns) (Ok w) given e h =
+    let one : Given = record { kind = k; form = record { routine = routine; types = types; wires = ws; numbers = ns } } in
+    let is : IsMade routine types (Ok ws) kind (Ok ns) (Ok w) one = record { routine_is = refl; types_are = refl; wires_are = refl; kind_is = e; numbers_are = refl; room_is = refl } in
+    subst (λ g. IsMade routine types (Ok ws) kind (Ok ns) (Ok w) g) (same_ok one given h) is
 
--- up to the routine
-wire_tests : (wires : List Wire) (name word : List ℕ) (form new type : Result (Unit {0}) NetKind) (found : Result Routine NetKind) (count known : Routine → Result (Unit {0}) NetKind) (axis : Result (Unit {0}) NetKind) (arguments : Routine → Result Arguments NetKind) (typed : Routine → Arguments → Result Kind NetKind) (shift : Routine → Result ℕ NetKind) (room : Result (Unit {0}) NetKind) (content : Content) → ((done : Unit {0}) → new ≡ Ok done → IsFresh wires name) → ((routine : Routine) (given : Arguments) (k : Kind) (sh : ℕ) → found ≡ Ok routine → arguments routine ≡ Ok given → typed routine given ≡ Ok k → shift routine ≡ Ok sh → IsUsed wires routine word k given sh) → ((done : Unit {0}) → room ≡ Ok done → nat_lt (length wires) 512 ≡ true) → (form >>= λ _. new >>= λ _. type >>= λ _. found >>= λ routine. count routine >>= λ _. known routine >>= λ _. axis >>= λ _. arguments routine >>= λ given. typed routine given >>= λ k. shift routine >>= λ sh. room >>= λ _. Ok (record { kind = k; item = OfBlock (block_of routine given sh) })) ≡ Ok content → IsGood wires name content
-wire_tests wires name word (Err fault) new type found count known axis arguments typed shift room content f used r h = cc
-wire_tests wires name word (Ok _) (Err fault) type found count known axis arguments typed shift room content f used r h = cc
-wire_tests wires name word (Ok _) (Ok new) (Err fault) found count known axis arguments typed shift room content f used r h = cc
-wire_tests wires name word (Ok _) (Ok new) (Ok _) (Err fault) count known axis arguments typed shift room content f used r h = cc
-wire_tests wires name word (Ok _) (Ok new) (Ok _) (Ok routine) count known axis arguments typed shift room content f used r h =
-    wire_end wires name word routine (count routine) (known routine) axis (arguments routine) (typed routine) (shift routine) room content (f new refl) (λ given k sh. used routine given k sh refl) r h
+made : (routine : Routine) (types : Types) (count known axis : Result (Unit {0}) NetKind) (wires : Result (List WireNo) NetKind) (kind : Form → Result Kind NetKind) (are : Result (Unit {0}) NetKind) (numbers : Result (List ℤ) NetKind) (room : Result (Unit {0}) NetKind) (given : Given)
+    → (count >>= λ _. known >>= λ _. axis >>= λ _. wires >>= λ ws. kind (record { routine = routine; types = types; wires = ws; numbers = [] }) >>= λ k. are >>= λ _. numbers >>= λ ns. room >>= λ _. Ok (record { kind = k; form = record { routine = routine; types = types; wires = ws; numbers = ns } })) ≡ Ok given
+    → IsMade routine types wires kind numbers room given
+made routine types (Err f) known axis wires kind are numbers room given h = absurd (cc)
+made routine types (Ok a) (Err f) axis wires kind are numbers room given h = absurd (cc)
+made routine types (Ok a) (Ok b) (Err f) wires kind are numbers room given h = absurd (cc)
+made routine types (Ok a) (Ok b) (Ok c) (Err f) kind are numbers room given h = absurd (cc)
+made routine types (Ok a) (Ok b) (Ok c) (Ok ws) kind are numbers room given h =
+    made_of routine types ws kind (kind (record { routine = routine; types = types; wires = ws; numbers = [] })) are numbers room given refl h
 
--- what a wire's line uses is there and of its types
-used_good : (wires : List Wire) (words : List (List ℕ)) (routine : Routine) (given : Arguments) (k : Kind) (sh : ℕ) → routine_at (nth words 4) ≡ Ok routine → arguments_of wires routine words ≡ Ok given → agreed wires (block_of routine given 0) (nth words 2) ≡ Ok k → shift_of routine words ≡ Ok sh → IsUsed wires routine (nth words 2) k given sh
-used_good wires words routine given k sh found arguments typed shift =
+pub given_good : (lines : List (List ℕ)) (net : NetData) (routine : Routine) (types : Types) (words : List (List ℕ)) (given : Given) → given_line lines net routine types (signature_of routine types) words ≡ Ok given → IsGiven net routine types (nth words 2) given
+unfolding given_line
+given_good lines net routine types words given h =
+    let sig = signature_of routine types in
+    let first = 5 + length sig.sorts in
+    let m = made routine types (demand (length words == first + length sig.ranges) BadCount) (demand (axis_passes (is_known lines net.wires) (nth words 2) && are_known lines net.wires sig.sorts 5 words) UnknownName) (demand (axis_passes (is_wire net.wires) (nth words 2)) LaterWire) (wires_named net.wires [] sig.sorts 5 words)
+    (λ form. agreed net form (nth words 2)) (demand (are_numbers sig.ranges first words) BadNumber) (numbers_in [] sig.ranges first words) (has_room net.wires) given h in
+    let agree = agreed_good net (record { routine = routine; types = types; wires = given.form.wires; numbers = [] }) (nth words 2) given.kind m.kind_is in
     record {
-      built = routine_built (nth words 4) routine found;
-      earlier = arguments_good wires routine words given arguments;
-      typed = agreed_good wires (block_of routine given 0) (nth words 2) k typed;
-      numbers = shift_good routine words given sh shift;
+      routine_is = m.routine_is;
+      types_are = m.types_are;
+      earlier = named_earlier net.wires [] sig.sorts 5 words given.form.wires refl m.wires_are;
+      found = agree.found;
+      agrees = ap₂ (λ r t. form_agrees net given.kind (record { routine = r; types = t; wires = given.form.wires; numbers = [] })) m.routine_is m.types_are ∙ agree.agrees;
+      fits = ap₂ (λ r t. in_ranges (signature_of r t).ranges given.form.numbers) m.routine_is m.types_are ∙ numbers_good sig.ranges first words given.form.numbers m.numbers_are;
+      room = demand_ok (nat_lt (length net.wires) 512) TooMany tt m.room_is;
     }
+
+-- a form's types are its routine's
+pub takes_given : (net : NetData) (kind : Kind) (form : Form) → form_agrees net kind form ≡ true → takes_form form ≡ true
+takes_given net kind form h =
+    let sig = signature_in form in
+    first_of_both (takes_form form) (wires_agree net.wires sig.sorts form.wires) (first_of_both (takes_form form && wires_agree net.wires sig.sorts form.wires) (is_of_sort sig.gives kind) h)
+
+-- the block of a form that passes the tests is good
+block_good : (net : NetData) (kind : Kind) (form : Form) → is_built form.routine ≡ true → wires_earlier (length net.wires) form.wires ≡ true → form_agrees net kind form ≡ true → numbers_fit form ≡ true → IsGoodItem net kind (OfBlock (block_of form))
+block_good net kind form built earlier agrees fits =
+    let sig = signature_in form in
+    let agree = second_of_both (takes_form form) (wires_agree net.wires sig.sorts form.wires) (first_of_both (takes_form form && wires_agree net.wires sig.sorts form.wires) (is_of_sort sig.gives kind) agrees) in
+    let full : IsFull form = record { built = built; wires = same_lengths (λ sort w. is_of_sort sort (wire_at net.wires w.0).kind) sig.sorts form.wires agree; numbers = fits } in
+    let b = block_of form in
+    let is = block_of_full form full in
+    record {
+      built = ap (λ f. is_built f.routine) is.back ∙ built;
+      earlier = ap (λ f. wires_earlier (length net.wires) f.wires) is.back ∙ earlier;
+      agreed = true_if_both (form_agrees net kind (form_of b)) (repeats_first b) (ap (form_agrees net kind) is.back ∙ agrees) is.repeats;
+      in_range = true_if_both (numbers_fit (form_of b)) (adds_no_number b) (ap numbers_fit is.back ∙ fits) is.adds;
+    }
+
+-- what the code that makes a block is told of its form
+pub given_ready : (lines : List (List ℕ)) (net : NetData) (routine : Routine) (types : Types) (signature : Signature) (words : List (List ℕ)) (given : Given) → signature ≡ signature_of routine types → is_built routine ≡ true → given_line lines net routine types signature words ≡ Ok given
+    → (is_built given.form.routine ≡ true) × (takes_form given.form ≡ true) × (numbers_fit given.form ≡ true)
+given_ready lines net routine types signature words given same built h =
+    let is = given_good lines net routine types words given (ap (λ s. given_line lines net routine types s words) (sym same) ∙ h) in
+    (ap is_built is.routine_is ∙ built, takes_given net given.kind given.form is.agrees, is.fits)
+
+-- what a wire's line gives
+abbrev content_of : Given → Content
+content_of given = record { kind = given.kind; item = OfBlock (block_of given.form) }
+
+-- what the steps of a wire's line gave
+record IsWireMade (new : Result (Unit {0}) NetKind) (found : Result (Routine × Types) NetKind) (given : Routine × Types → Result Given NetKind) (content : Content) : Type 0 where
+  new_is : new ≡ Ok tt
+  routine : Routine × Types
+  found_is : found ≡ Ok routine
+  made : Given
+  made_is : given routine ≡ Ok made
+  same : content_of made ≡ content
+
+wire_made : (form new type : Result (Unit {0}) NetKind) (found : Result (Routine × Types) NetKind) (given : Routine × Types → Result Given NetKind) (content : Content)
+    → (form >>= λ _. new >>= λ _. type >>= λ _. found >>= λ f. given f >>= λ g. Ok (content_of g)) ≡ Ok content → IsWireMade new found given content
+wire_made (Err e) new type found given content h = absurd (cc)
+wire_made (Ok a) (Err e) type found given content h = absurd (cc)
+wire_made (Ok a) (Ok b) (Err e) found given content h = absurd (cc)
+wire_made (Ok a) (Ok b) (Ok c) (Err e) given content h = absurd (cc)
+wire_made (Ok a) (Ok b) (Ok c) (Ok f) given content h =
+    let r = bind_ok (given f) (λ g. Ok (content_of g)) content h in
+    record { new_is = refl; routine = f; found_is = refl; made = r.0; made_is = r.1; same = same_ok (content_of r.0) content r.2 }
 
 -- a wire of a routine is good
-wire_good : (lines : List (List ℕ)) (wires : List Wire) (words : List (List ℕ)) (content : Content) → wire_line lines wires words ≡ Ok content → IsGood wires (nth words 1) content
+wire_good : (lines : List (List ℕ)) (net : NetData) (words : List (List ℕ)) (content : Content) → wire_line lines net words ≡ Ok content → IsGood net (nth words 1) content
 unfolding wire_line
-wire_good lines wires words content h =
-    wire_tests wires (nth words 1) (nth words 2) (demand (nat_le 6 (length words) && bytes_eq (nth words 3) (codes "=")) BadLine) (fresh wires (nth words 1)) (demand (is_type (nth words 2)) BadType) (routine_at (nth words 4)) (λ routine. demand (length words == words_wanted routine) BadCount) (λ routine. demand (are_known lines wires routine words) UnknownName) (demand (axis_passes (is_wire wires) (nth words 2)) LaterWire) (λ routine. arguments_of wires routine words) (λ routine given. agreed wires (block_of routine given 0) (nth words 2)) (λ routine. shift_of routine words) (has_room wires) content (λ done e. fresh_ok wires (nth words 1) done e) (λ routine given k sh. used_good wires words routine given k sh) (λ done e. demand_ok (nat_lt (length wires) 512) TooMany done e) h
+wire_good lines net words content h =
+    let m = wire_made (demand (nat_le 6 (length words) && bytes_eq (nth words 3) (codes "=")) BadLine) (fresh net.wires (nth words 1)) (demand (is_type (nth words 2)) BadType) (routine_at (nth words 4)) (λ f. given_line lines net f.0 f.1 (signature_of f.0 f.1) words) content h in
+    let name = fresh_ok net.wires (nth words 1) tt m.new_is in
+    let given = given_good lines net m.routine.0 m.routine.1 words m.made m.made_is in
+    let is : IsGood net (nth words 1) (content_of m.made) = record {
+      named = name.named;
+      fresh = name.fresh;
+      room = given.room;
+      kind = kind_good (nth words 2) m.made.kind given.found;
+      item = block_good net m.made.kind m.made.form (ap is_built given.routine_is ∙ routine_built (nth words 4) m.routine m.found_is) given.earlier given.agrees given.fits;
+    } in
+    subst (λ c. IsGood net (nth words 1) c) m.same is
 
 -- ---- a line that isn't built
 
 -- it gives nothing
-unbuilt_tests : (wires : List Wire) (name : List ℕ) (form new type : Result (Unit {0}) NetKind) (content : Content) → (form >>= λ _. new >>= λ _. type >>= λ _. Err NotBuilt) ≡ Ok content → IsGood wires name content
-unbuilt_tests wires name (Err fault) new type content h = cc
-unbuilt_tests wires name (Ok _) (Err fault) type content h = cc
-unbuilt_tests wires name (Ok _) (Ok _) (Err fault) content h = cc
-unbuilt_tests wires name (Ok _) (Ok _) (Ok _) content h = cc
+unbuilt_tests : (net : NetData) (name : List ℕ) (form new type : Result (Unit {0}) NetKind) (content : Content) → (form >>= λ _. new >>= λ _. type >>= λ _. Err NotBuilt) ≡ Ok content → IsGood net name content
+unbuilt_tests net name (Err fault) new type content h = cc
+unbuilt_tests net name (Ok _) (Err fault) type content h = cc
+unbuilt_tests net name (Ok _) (Ok _) (Err fault) content h = cc
+unbuilt_tests net name (Ok _) (Ok _) (Ok _) content h = cc
 
-unbuilt_good : (has_form has_type : Bool) (wires : List Wire) (words : List (List ℕ)) (content : Content) → unbuilt_line has_form has_type wires words ≡ Ok content → IsGood wires (nth words 1) content
+unbuilt_good : (has_form has_type : Bool) (net : NetData) (words : List (List ℕ)) (content : Content) → unbuilt_line has_form has_type net.wires words ≡ Ok content → IsGood net (nth words 1) content
 unfolding unbuilt_line
-unbuilt_good has_form has_type wires words content h =
-    unbuilt_tests wires (nth words 1) (demand has_form BadLine) (fresh wires (nth words 1)) (demand has_type BadType) content h
+unbuilt_good has_form has_type net words content h =
+    unbuilt_tests net (nth words 1) (demand has_form BadLine) (fresh net.wires (nth words 1)) (demand has_type BadType) content h
 
 -- ---- any line that defines a wire
 
 -- whichever keyword the line has
-line_good : (keyword : Keyword) (lines : List (List ℕ)) (wires : List Wire) (words : List (List ℕ)) (content : Content) → line_of keyword lines wires words ≡ Ok content → IsGood wires (nth words 1) content
+line_good : (keyword : Keyword) (lines : List (List ℕ)) (net : NetData) (words : List (List ℕ)) (content : Content) → line_of keyword lines net words ≡ Ok content → IsGood net (nth words 1) content
 unfolding line_of
-line_good InLine lines wires words content h = in_good wires words content h
-line_good ConstLine lines wires words content h = const_good wires words content h
-line_good AxisLine lines wires words content h =
-    unbuilt_good (nat_le 4 (length words)) (is_narrow (ty_of (nth words 2))) wires words content h
-line_good AxisStepLine lines wires words content h =
-    unbuilt_good (length words == 6) (is_narrow (ty_of (nth words 2))) wires words content h
-line_good AxisShiftLine lines wires words content h =
-    unbuilt_good (length words == 6) (is_narrow (ty_of (nth words 2))) wires words content h
-line_good TableLine lines wires words content h =
-    unbuilt_good (nat_le 4 (length words)) (is_narrow (ty_of (nth words 2))) wires words content h
-line_good MapLine lines wires words content h =
-    unbuilt_good (nat_le 5 (length words)) (is_narrow (ty_of (nth words 2))) wires words content h
-line_good WireLine lines wires words content h = wire_good lines wires words content h
-line_good DelayLine lines wires words content h =
-    unbuilt_good ((length words == 6) && bytes_eq (nth words 4) (codes "=")) (is_type (nth words 2)) wires words content h
+line_good InLine lines net words content h = in_good net words content h
+line_good ConstLine lines net words content h = const_good net words content h
+line_good AxisLine lines net words content h =
+    unbuilt_good (nat_le 4 (length words)) (is_narrow (ty_of (nth words 2))) net words content h
+line_good AxisStepLine lines net words content h =
+    unbuilt_good (length words == 6) (is_narrow (ty_of (nth words 2))) net words content h
+line_good AxisShiftLine lines net words content h =
+    unbuilt_good (length words == 6) (is_narrow (ty_of (nth words 2))) net words content h
+line_good TableLine lines net words content h =
+    unbuilt_good (nat_le 4 (length words)) (is_narrow (ty_of (nth words 2))) net words content h
+line_good MapLine lines net words content h =
+    unbuilt_good (nat_le 5 (length words)) (is_narrow (ty_of (nth words 2))) net words content h
+line_good WireLine lines net words content h = wire_good lines net words content h
+line_good DelayLine lines net words content h =
+    unbuilt_good ((length words == 6) && bytes_eq (nth words 4) (codes "=")) (is_type (nth words 2)) net words content h
 
 -- the line has one
-by_keyword : (found : Result Keyword NetKind) (lines : List (List ℕ)) (wires : List Wire) (words : List (List ℕ)) (content : Content) → (found >>= λ keyword. line_of keyword lines wires words) ≡ Ok content → IsGood wires (nth words 1) content
-by_keyword (Err fault) lines wires words content h = cc
-by_keyword (Ok keyword) lines wires words content h = line_good keyword lines wires words content h
+by_keyword : (found : Result Keyword NetKind) (lines : List (List ℕ)) (net : NetData) (words : List (List ℕ)) (content : Content) → (found >>= λ keyword. line_of keyword lines net words) ≡ Ok content → IsGood net (nth words 1) content
+by_keyword (Err fault) lines net words content h = cc
+by_keyword (Ok keyword) lines net words content h = line_good keyword lines net words content h
 
 -- a line that defines a wire gives a good one
-pub definition_good : (lines : List (List ℕ)) (wires : List Wire) (words : List (List ℕ)) (content : Content) → defining_line lines wires words ≡ Ok content → IsGood wires (nth words 1) content
+pub definition_good : (lines : List (List ℕ)) (net : NetData) (words : List (List ℕ)) (content : Content) → defining_line lines net words ≡ Ok content → IsGood net (nth words 1) content
 unfolding defining_line
-definition_good lines wires words content h =
-    by_keyword (ok_or (keyword_of (nth words 0)) BadLine) lines wires words content h
+definition_good lines net words content h =
+    by_keyword (ok_or (keyword_of (nth words 0)) BadLine) lines net words content h
 
 -- ---- an output's line
 

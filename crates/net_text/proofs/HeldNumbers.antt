@@ -1,10 +1,8 @@
 -- A number that is held in 64 bits passes the tests of a line exactly where the number that is written does.
-use Rattle.std.proofs.Common.{◌≡◌, ◌∙◌, ℕ, List, Bool, true, false, ◌&&◌, ap₂, sym, refl, ℤ, pos, negsuc, int_le, Option, Some, None, option_map, Result, Ok, arith}
-use Rattle.std.specs.Prelude.{ok_or, unsigned_abs}
-use Rattle.std.proofs.lemmas.Bool.{and_parts, true≢false}
+use Rattle.std.proofs.Common.{◌≡◌, ◌∙◌, ℕ, ◌<◌, ◌-◌, ◌^◌, List, Bool, true, false, ◌&&◌, ap₂, sym, refl, ℤ, pos, negsuc, ◌<ℤ◌, ◌≤ℤ◌, int_le, Option, Some, None, option_map, Result, Ok, FitsSigned, w32, arith}
+use Rattle.std.specs.Prelude.{ok_or}
+use Rattle.std.proofs.lemmas.Bool.{and_parts}
 use Rattle.std.proofs.lemmas.Int.{ints}
-use Rattle.fx_routines.specs.declared.operation.ArithOp.{ArithOp}
-use Rattle.fx_routines.specs.declared.operation.ArithOp.TheVariants.{MulShRight, DivShLeft}
 use Rattle.text_words.specs.Numbers.{number_of, held}
 use Rattle.text_words.specs.Steps.{◌>>=◌, demand}
 use Rattle.text_words.proofs.Held.{held_least, held_most, held_between, tested_held}
@@ -13,10 +11,11 @@ use Rattle.net_model.specs.declared.network.NetKind.TheVariants.{BadNumber, OutO
 use Rattle.net_model.specs.declared.wires.Kind.{Kind}
 use Rattle.net_model.specs.declared.wires.Item.{Item}
 use Rattle.net_model.specs.declared.wires.Item.TheVariants.{Input, Const}
-use Rattle.net_model.specs.Built.{has_shift, is_shift}
+use Rattle.net_model.specs.declared.signatures.Range.{Range}
+use Rattle.net_model.specs.BlockForms.{in_range as is_in_range}
 use Rattle.net_model.specs.Validity.{kind_holds}
 use Rattle.net_model.proofs.HeldKinds.{kind_holds-held, held_in_kind}
-use Rattle.net_text.specs.Forms.{in_range, input_of, const_of, shift_at}
+use Rattle.net_text.specs.Forms.{in_range, input_of, const_of, number_in}
 
 -- ---- an input
 
@@ -53,31 +52,40 @@ unfolding const_of
 const_of_held kind word =
     sym (tested_held (kind_holds kind) (λ value. Const value) BadNumber OutOfRange (number_of word) (kind_holds-held kind) (held_in_kind kind))
 
--- ---- a shift
+-- ---- a number of a range
 
--- a number is a shift of an operation that has one exactly where it lies from 0 to 15
-pub shift_ends : (op : ArithOp) (z : ℤ) → has_shift op ≡ true → (int_le (pos 0) z && is_shift op (unsigned_abs z)) ≡ (int_le (pos 0) z && int_le z (pos 15))
-shift_ends MulShRight (pos n) has = refl
-shift_ends MulShRight (negsuc n) has = refl
-shift_ends DivShLeft (pos n) has = refl
-shift_ends DivShLeft (negsuc n) has = refl
-shift_ends other z has = absurd (true≢false (sym has))
+-- the number of a range, if it is there
+abbrev number_from : Range → Option ℤ → Result ℤ NetKind
+number_from range number = do
+  value ← ok_or number BadNumber
+  _ ← demand (is_in_range range value) OutOfRange
+  Ok value
 
--- so is what is held
-is_shift-held : (op : ArithOp) → has_shift op ≡ true → (z : ℤ) → (int_le (pos 0) (held z) && is_shift op (unsigned_abs (held z))) ≡ (int_le (pos 0) z && is_shift op (unsigned_abs z))
-is_shift-held op has z =
-    shift_ends op (held z) has
-    ∙ ap₂ (λ a b. a && b) (held_least (pos 0) z (omega (arith, ints)) (omega (arith, ints))) (held_most (pos 15) z (omega (arith, ints)) (omega (arith, ints)))
-    ∙ sym (shift_ends op z has)
+-- the ends of a range, as code has them
+record IsShort (range : Range) : Type 0 where
+  low : FitsSigned w32 range.low
+  high : range.high < 2 ^ 32
 
--- a shift is held as it is
-held_shift : (op : ArithOp) → has_shift op ≡ true → (z : ℤ) → (int_le (pos 0) z && is_shift op (unsigned_abs z)) ≡ true → held z ≡ z
-held_shift op has z h =
-    let p = and_parts (int_le (pos 0) (held z)) (int_le (held z) (pos 15)) (sym (shift_ends op (held z) has) ∙ is_shift-held op has z ∙ h) in
-    held_between (pos 0) (pos 15) z (omega (arith, ints)) (omega (arith, ints)) p.0 p.1
+low_inside : (z : ℤ) → FitsSigned w32 z → (negsuc (2 ^ 63 - 1) <ℤ z) × (z ≤ℤ pos (2 ^ 63 - 1))
+low_inside (pos n) h = let b = h.sfits in (omega (arith, ints), omega (arith, ints))
+low_inside (negsuc n) h = let b = h.sfits in (omega (arith, ints), omega (arith, ints))
 
--- a shift read from what is held
-pub shift_at_held : (op : ArithOp) (word : List ℕ) → has_shift op ≡ true → shift_at op word ≡ (ok_or (option_map held (number_of word)) BadNumber >>= λ z. demand (int_le (pos 0) z && is_shift op (unsigned_abs z)) OutOfRange >>= λ _. Ok (unsigned_abs z))
-unfolding shift_at
-shift_at_held op word has =
-    sym (tested_held (λ z. int_le (pos 0) z && is_shift op (unsigned_abs z)) unsigned_abs BadNumber OutOfRange (number_of word) (is_shift-held op has) (held_shift op has))
+in_range-held : (range : Range) (z : ℤ) → IsShort range → is_in_range range (held z) ≡ is_in_range range z
+in_range-held range z short =
+    let l = low_inside range.low short.low in
+    let h = short.high in
+    ap₂ (λ a b. a && b) (held_least range.low z l.0 l.1) (held_most (pos range.high) z (omega (arith, ints)) (omega (arith, ints)))
+
+held_in_range : (range : Range) (z : ℤ) → IsShort range → is_in_range range z ≡ true → held z ≡ z
+held_in_range range z short e =
+    let l = low_inside range.low short.low in
+    let h = short.high in
+    let p = and_parts (int_le range.low (held z)) (int_le (held z) (pos range.high)) (in_range-held range z short ∙ e) in
+    held_between range.low (pos range.high) z l.0 (omega (arith, ints)) p.0 p.1
+
+-- a number read from what is held
+pub number_in_held : (range : Range) (word : List ℕ) → FitsSigned w32 range.low → range.high < 2 ^ 32 → number_in range word ≡ number_from range (option_map held (number_of word))
+unfolding number_in
+number_in_held range word low high =
+    let short : IsShort range = record { low = low; high = high } in
+    sym (tested_held (is_in_range range) (λ value. value) BadNumber OutOfRange (number_of word) (λ z. in_range-held range z short) (λ z. held_in_range range z short))

@@ -1,5 +1,8 @@
 mod HeldNumbers
+mod LineSteps
 pub mod GoodLines
+mod NamePlaces
+mod NamesKept
 pub mod ReadingLaw
 mod TextExamples
 mod PrintedBlocks

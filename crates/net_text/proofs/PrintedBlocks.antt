@@ -1,192 +1,181 @@
--- A printed block is read as itself.
-use Rattle.std.proofs.Common.{◌≡◌, ℕ, ◌≤◌, ◌+◌, Bool, true, cond, ◌&&◌, eqb, leb, nat_lt, int_le, List, [], ◌∷◌, ◌++◌, map, length, take, pos, slice_get, Option, Some, None, Ok, refl, sym, ap, ◌∙◌, arith, leb-true, ltb-true, eqb-true, eq-eqb, le-leb, length-append}
+-- A printed form is read as itself: no family is named.
+use Rattle.std.proofs.Common.{◌≡◌, ℕ, zero, suc, ◌≤◌, ◌+◌, ◌^◌, true, eqb, leb, nat_lt, int_le, List, [], ◌∷◌, ◌++◌, map, length, take, drop, codes, ℤ, pos, negsuc, unsigned_abs, Some, Ok, refl, sym, ap, ◌∙◌, arith, ltb-true, leb-true, eq-eqb, le-leb, append_assoc, append-nil, length-append}
 use Rattle.std.specs.Fmt.{signed_decimal}
+use Rattle.std.specs.List.{list_all}
 use Rattle.std.proofs.lemmas.Bool.{and_parts, and_from}
-use Rattle.std.proofs.lemmas.Bool.Decides.{nat_tests}
-use Rattle.std.proofs.lemmas.List.{length-take-le}
+use Rattle.std.proofs.lemmas.Int.{ints}
+use Rattle.std.proofs.lemmas.List.{length-map}
+use Rattle.text_words.specs.Lines.{nth}
+use Rattle.text_words.specs.Numbers.{number_of}
 use Rattle.text_words.proofs.PrintedNumbers.{number_of-signed_decimal}
-use Rattle.fx_core.specs.declared.word_type.Ty.{Ty}
-use Rattle.fx_routines.specs.declared.operation.ArithOp.{ArithOp}
-use Rattle.fx_routines.specs.declared.operation.ArithOp.TheVariants.{Abs, MulDiv, MulShRight, DivShLeft, Limit, Min, Max, RateLimiter}
-use Rattle.fx_routines.specs.declared.operation.Variant.{Variant}
-use Rattle.mfx_arith.specs.Operations.{argument_types}
-use Rattle.fx_routines.specs.declared.operation.ScaledOp.{ScaledOp}
-use Rattle.fx_routines.specs.declared.operation.ScaledOp.TheVariants.{Convert}
 use Rattle.net_model.specs.declared.wires.WireNo.{WireNo}
 use Rattle.net_model.specs.declared.wires.Kind.{Kind}
-use Rattle.net_model.specs.declared.wires.Block.{Block}
-use Rattle.net_model.specs.declared.wires.Block.TheVariants.{Arith, Scaled}
 use Rattle.net_model.specs.declared.wires.Wire.{Wire}
-use Rattle.net_model.specs.Built.{has_shift, is_shift}
-use Rattle.net_model.specs.Wires.{wire_at, place_of, argument_of}
-use Rattle.net_model.specs.Validity.{types_read, type_read, is_earlier, argument_agrees, reads_earlier, arguments_agree, agrees, is_number_of, takes_block, output_type, are_distinct}
-use Rattle.net_text.specs.declared.routine_word.Routine.TheVariants.{ArithOf, ScaledOf}
-use Rattle.net_text.specs.Forms.{argument_word, shift_at, shift_of}
-use Rattle.net_text.specs.Printing.{argument_words, shift_words}
-use Rattle.net_text.proofs.PrintedNames.{place_of-wire_at, wire_at-take}
-use Rattle.net_text.proofs.PrintedForms.{IsReadAs, block_line}
+use Rattle.net_model.specs.declared.wires.Item.TheVariants.{Block as OfBlock}
+use Rattle.net_model.specs.declared.signatures.Sort.{Sort}
+use Rattle.net_model.specs.declared.signatures.Range.{Range}
+use Rattle.net_model.specs.declared.block_forms.Form.{Form}
+use Rattle.net_model.specs.Built.{is_built}
+use Rattle.net_model.specs.BlockForms.{in_range, in_ranges, signature_in, block_of}
+use Rattle.net_model.specs.Wires.{NetData, wire_at}
+use Rattle.net_model.specs.Validity.{is_good_kind, is_of_sort, takes_form, wires_earlier, wires_agree, numbers_fit, are_distinct}
+use Rattle.net_model.proofs.SideBySide.{same_lengths}
+use Rattle.net_model.proofs.BuiltFacts.{is_short, ranges_are_short, reads_some}
+use Rattle.net_text.specs.Forms.{is_known, fresh, are_known, wire_named, wires_named, are_numbers, number_in, numbers_in, agreed, given_line, wire_line}
+use Rattle.net_text.specs.Printing.{kind_word, argument_words, number_words, form_words}
+use Rattle.net_text.proofs.PrintedKinds.{kind_of-kind_word, is_position-kind_word}
+use Rattle.net_text.proofs.PrintedNames.{place_of-wire_at, is_wire-earlier, wire_at-take}
+use Rattle.net_text.proofs.PrintedForms.{IsNew}
+use Rattle.net_text.proofs.PrintedRoutines.{routine_at-routine_name}
 
--- the words of a line of a routine that reads wires of these types
-abbrev routine_line : List ℕ → List ℕ → List ℕ → List Ty → List (List ℕ) → List (List ℕ) → List (List ℕ)
-routine_line name kw routine types names places = block_line name kw routine (take (length types) names ++ places)
+-- the network of the first wires, with no output yet
+abbrev pub first_wires : NetData → ℕ → NetData
+first_wires net i = record { wires = take i net.wires; outs = [] }
 
--- ---- three tests at once
+-- the words of a form's line
+abbrev pub block_line : List Wire → List ℕ → Kind → Form → List (List ℕ)
+block_line all name kind form = codes "wire" ∷ name ∷ kind_word kind ∷ codes "=" ∷ form_words all form
 
-pub all_three : (a b c : Bool) → (a && b && c) ≡ true → (a ≡ true) × (b ≡ true) × (c ≡ true)
-all_three a b c h =
-    let outer = and_parts (a && b) c h in
-    let inner = and_parts a b outer.0 in (inner.0, inner.1, outer.1)
+-- ---- what stands at a place
 
--- ---- types: what agrees among all wires agrees among those so far
+at_drop : (words : List (List ℕ)) (k : ℕ) (x : List ℕ) (rest : List (List ℕ)) → drop k words ≡ x ∷ rest → (nth words k ≡ x) × (drop (k + 1) words ≡ rest)
+at_drop [] zero x rest e = absurd (cc)
+at_drop [] (suc k) x rest e = absurd (cc)
+at_drop (w ∷ words) zero x rest e = (cc, cc)
+at_drop (w ∷ words) (suc k) x rest e =
+    let r = at_drop words k x rest e in
+    let m : suc k + 1 ≡ suc (k + 1) = omega arith in
+    (r.0, ap (λ n. drop n (w ∷ words)) m ∙ r.1)
 
--- an argument that the routine has is an earlier wire, of the same kind among those so far
-given_so_far : (wires : List Wire) (i first : ℕ) (ty : Option Ty) (a : ℕ) → is_earlier i ty a ≡ true → argument_agrees wires first ty a ≡ true → argument_agrees (take i wires) first ty a ≡ true
-given_so_far wires i first None a earlier given = given
-given_so_far wires i first (Some ty) a earlier given = ap (λ w. is_number_of ty w.kind) (wire_at-take wires i a (ltb-true a i earlier)) ∙ given
+-- ---- wires
 
-pub agrees_so_far : (wires : List Wire) (i : ℕ) (kind : Kind) (b : Block) → reads_earlier i b ≡ true → agrees wires kind b ≡ true → agrees (take i wires) kind b ≡ true
-agrees_so_far wires i kind b earlier agree =
-    let parts = all_three (takes_block b) (arguments_agree wires b) (is_number_of (output_type b) kind) agree in
-    let before = all_three (is_earlier i (type_read b 0) (argument_of b 0)) (is_earlier i (type_read b 1) (argument_of b 1)) (is_earlier i (type_read b 2) (argument_of b 2)) earlier in
-    let first = argument_of b 0 in
-    let given = all_three (argument_agrees wires first (type_read b 0) (argument_of b 0)) (argument_agrees wires first (type_read b 1) (argument_of b 1)) (argument_agrees wires first (type_read b 2) (argument_of b 2)) parts.1 in
-    and_from _ _ (and_from _ _ parts.0 (and_from _ _ (and_from _ _ (given_so_far wires i first (type_read b 0) (argument_of b 0) before.0 given.0)
-    (given_so_far wires i first (type_read b 1) (argument_of b 1) before.1 given.1))
-    (given_so_far wires i first (type_read b 2) (argument_of b 2) before.2 given.2))) parts.2
+-- the names of earlier wires are known
+known_printed : (lines : List (List ℕ)) (all : List Wire) (i : ℕ) (sorts : List Sort) (given : List WireNo) (k : ℕ) (words rest : List (List ℕ)) → are_distinct (map (λ w. w.name) all) ≡ true → i ≤ length all
+    → length sorts ≡ length given → wires_earlier i given ≡ true → drop k words ≡ argument_words all given ++ rest → are_known lines (take i all) sorts k words ≡ true
+unfolding are_known is_known
+known_printed lines all i [] [] k words rest distinct within count earlier e = refl
+known_printed lines all i (s ∷ sorts) [] k words rest distinct within count earlier e = absurd (omega arith)
+known_printed lines all i [] (w ∷ given) k words rest distinct within count earlier e = absurd (omega arith)
+known_printed lines all i (s ∷ sorts) (w ∷ given) k words rest distinct within count earlier e =
+    let here = at_drop words k (wire_at all w.0).name (argument_words all given ++ rest) e in
+    let before = and_parts (nat_lt w.0 i) (wires_earlier i given) earlier in
+    rw (here.0, is_wire-earlier all i w.0 distinct (ltb-true w.0 i before.0) within) (known_printed lines all i sorts given (k + 1) words rest distinct within (omega arith) before.1 here.1)
 
--- ---- arguments
+-- and are read as the wires
+wires_printed : (all : List Wire) (i : ℕ) (so_far : List WireNo) (sorts : List Sort) (given : List WireNo) (k : ℕ) (words rest : List (List ℕ)) → are_distinct (map (λ w. w.name) all) ≡ true → i ≤ length all
+    → length sorts ≡ length given → wires_earlier i given ≡ true → drop k words ≡ argument_words all given ++ rest → wires_named (take i all) so_far sorts k words ≡ Ok (so_far ++ given)
+unfolding wires_named wire_named
+wires_printed all i so_far [] [] k words rest distinct within count earlier e = ap (λ l. Ok l) (sym (append-nil so_far))
+wires_printed all i so_far (s ∷ sorts) [] k words rest distinct within count earlier e = absurd (omega arith)
+wires_printed all i so_far [] (w ∷ given) k words rest distinct within count earlier e = absurd (omega arith)
+wires_printed all i so_far (s ∷ sorts) (w ∷ given) k words rest distinct within count earlier e =
+    let here = at_drop words k (wire_at all w.0).name (argument_words all given ++ rest) e in
+    let before = and_parts (nat_lt w.0 i) (wires_earlier i given) earlier in
+    rw (here.0, place_of-wire_at all i w.0 distinct (ltb-true w.0 i before.0) within)
+    (wires_printed all i (so_far ++ w ∷ []) sorts given (k + 1) words rest distinct within (omega arith) before.1 here.1 ∙ ap (λ l. Ok l) (append_assoc so_far (w ∷ []) given))
 
--- the words of a line are those of these wires, as far as types tell
-record AreRead (wires : List Wire) (i : ℕ) (words : List (List ℕ)) (types : List Ty) (x y z : ℕ) : Type 0 where
-  first : place_of (take i wires) (argument_word words 0 (slice_get types 0)) ≡ Some x
-  second : place_of (take i wires) (argument_word words 1 (slice_get types 1)) ≡ Some y
-  third : place_of (take i wires) (argument_word words 2 (slice_get types 2)) ≡ Some z
+-- behind the names stands the rest
+behind_names : (all : List Wire) (given : List WireNo) (k : ℕ) (words rest : List (List ℕ)) → drop k words ≡ argument_words all given ++ rest → drop (k + length given) words ≡ rest
+behind_names all [] k words rest e = let m : k + 0 ≡ k = omega arith in ap (λ n. drop n words) m ∙ e
+behind_names all (w ∷ given) k words rest e =
+    let here = at_drop words k (wire_at all w.0).name (argument_words all given ++ rest) e in
+    let m : k + suc (length given) ≡ (k + 1) + length given = omega arith in
+    ap (λ n. drop n words) m ∙ behind_names all given (k + 1) words rest here.1
 
--- the names of three wires
-abbrev names_of : List Wire → ℕ → ℕ → ℕ → List (List ℕ)
-names_of wires x y z = (wire_at wires x).name ∷ (wire_at wires y).name ∷ (wire_at wires z).name ∷ []
+-- the sorts of earlier wires are those among the wires so far
+agree_so_far : (all : List Wire) (i : ℕ) (sorts : List Sort) (given : List WireNo) → wires_earlier i given ≡ true → wires_agree all sorts given ≡ true → wires_agree (take i all) sorts given ≡ true
+agree_so_far all i [] [] earlier h = refl
+agree_so_far all i (s ∷ sorts) [] earlier h = absurd (cc)
+agree_so_far all i [] (w ∷ given) earlier h = absurd (cc)
+agree_so_far all i (s ∷ sorts) (w ∷ given) earlier h =
+    let before = and_parts (nat_lt w.0 i) (wires_earlier i given) earlier in
+    let fits = and_parts (is_of_sort s (wire_at all w.0).kind) (wires_agree all sorts given) h in
+    and_from (is_of_sort s (wire_at (take i all) w.0).kind) (wires_agree (take i all) sorts given) (ap (λ v. is_of_sort s v.kind) (wire_at-take all i w.0 (ltb-true w.0 i before.0)) ∙ fits.0) (agree_so_far all i sorts given before.1 fits.1)
 
--- a routine has one wire or more, and three at most
-are_read : (wires : List Wire) (i x y z : ℕ) (name kw rname : List ℕ) (types : List Ty) (places : List (List ℕ)) → are_distinct (map (λ w. w.name) wires) ≡ true → i ≤ length wires
-    → 1 ≤ length types → length types ≤ 3
-    → (is_earlier i (slice_get types 0) x && is_earlier i (slice_get types 1) y && is_earlier i (slice_get types 2) z) ≡ true
-    → (argument_agrees wires x (slice_get types 0) x && argument_agrees wires x (slice_get types 1) y && argument_agrees wires x (slice_get types 2) z) ≡ true
-    → AreRead wires i (routine_line name kw rname types (names_of wires x y z) places) types x y z
-are_read wires i x y z name kw rname [] places distinct within some few earlier given = absurd (omega arith)
-are_read wires i x y z name kw rname (t ∷ []) places distinct within some few earlier given =
-    let before = all_three (nat_lt x i) true true earlier in
-    let same = all_three (is_number_of t (wire_at wires x).kind) (eqb y x) (eqb z x) given in
-    let first = place_of-wire_at wires i x distinct (ltb-true x i before.0) within in
-    record {
-      first = first;
-      second = first ∙ ap (λ a. Some a) (sym (eqb-true y x same.1));
-      third = first ∙ ap (λ a. Some a) (sym (eqb-true z x same.2));
-    }
-are_read wires i x y z name kw rname (t ∷ u ∷ []) places distinct within some few earlier given =
-    let before = all_three (nat_lt x i) (nat_lt y i) true earlier in
-    let same = all_three (is_number_of t (wire_at wires x).kind) (is_number_of u (wire_at wires y).kind) (eqb z x) given in
-    let first = place_of-wire_at wires i x distinct (ltb-true x i before.0) within in
-    record {
-      first = first;
-      second = place_of-wire_at wires i y distinct (ltb-true y i before.1) within;
-      third = first ∙ ap (λ a. Some a) (sym (eqb-true z x same.2));
-    }
-are_read wires i x y z name kw rname (t ∷ u ∷ v ∷ []) places distinct within some few earlier given =
-    let before = all_three (nat_lt x i) (nat_lt y i) (nat_lt z i) earlier in
-    record {
-      first = place_of-wire_at wires i x distinct (ltb-true x i before.0) within;
-      second = place_of-wire_at wires i y distinct (ltb-true y i before.1) within;
-      third = place_of-wire_at wires i z distinct (ltb-true z i before.2) within;
-    }
-are_read wires i x y z name kw rname (t ∷ u ∷ v ∷ w ∷ more) places distinct within some few earlier given = absurd (omega arith)
+-- ---- numbers
 
--- how many wires an operation reads
-few_types : (op : ArithOp) (v : Variant) → (1 ≤ length (argument_types op v)) × (length (argument_types op v) ≤ 3)
-few_types MulDiv v = (omega arith, omega arith)
-few_types Abs v = (omega arith, omega arith)
-few_types Limit v = (omega arith, omega arith)
-few_types Min v = (omega arith, omega arith)
-few_types Max v = (omega arith, omega arith)
-few_types RateLimiter v = (omega arith, omega arith)
-few_types other v = (omega arith, omega arith)
+above_by : (low n : ℤ) (m : ℕ) → int_le (negsuc m) low ≡ true → int_le low n ≡ true → int_le (negsuc m) n ≡ true
+above_by low n m a b = grind (arith, ints)
 
-pub few_types_read : (b : Block) → (1 ≤ length (types_read b)) × (length (types_read b) ≤ 3)
-few_types_read (Arith op v x y z sh) = few_types op v
-few_types_read (Scaled Convert v x y) = (omega arith, omega arith)
-few_types_read (Scaled other v x y) = (omega arith, omega arith)
+size_of : (n : ℤ) (m high : ℕ) → int_le (negsuc m) n ≡ true → int_le n (pos high) ≡ true → high ≤ m → unsigned_abs n ≤ m + 1
+size_of n m high a b h = grind (arith, ints)
 
--- ---- shifts
+-- a number of a range has at most 33 bits
+pub size_in_range : (range : Range) (n : ℤ) → is_short range ≡ true → in_range range n ≡ true → unsigned_abs n ≤ 2 ^ 32 + 1
+size_in_range range n short h =
+    let s = and_parts (int_le (negsuc (2 ^ 32)) range.low) (leb range.high (2 ^ 32)) short in
+    let p = and_parts (int_le range.low n) (int_le n (pos range.high)) h in
+    size_of n (2 ^ 32) range.high (above_by range.low n (2 ^ 32) s.0 p.0) p.1 (leb-true range.high (2 ^ 32) s.1)
 
--- a shift up to 15 is read again
-shift_at-printed : (op : ArithOp) (sh : ℕ) → leb sh 15 ≡ true → is_shift op sh ≡ true → shift_at op (signed_decimal (pos sh)) ≡ Ok sh
-unfolding shift_at
-shift_at-printed op sh most good =
-    let small : sh ≤ 15 = leb-true sh 15 most in
-    let least : int_le (pos 0) (pos sh) ≡ true = grind (arith, nat_tests) in
-    rw (number_of-signed_decimal (pos sh) (omega arith), least, good)
+number_read : (range : Range) (n : ℤ) → is_short range ≡ true → in_range range n ≡ true → number_of (signed_decimal n) ≡ Some n
+number_read range n short h =
+    let size = size_in_range range n short h in number_of-signed_decimal n (omega arith)
 
-shift_of-printed : (op : ArithOp) (v : Variant) (x y z : WireNo) (sh : ℕ) (name kw rname nx ny nz : List ℕ) → is_shift op sh ≡ true
-    → shift_of (ArithOf op v) (routine_line name kw rname (argument_types op v) (nx ∷ ny ∷ nz ∷ []) (shift_words (Arith op v x y z sh))) ≡ Ok sh
-unfolding shift_of
-shift_of-printed MulShRight v x y z sh name kw rname nx ny nz good = shift_at-printed MulShRight sh good good
-shift_of-printed DivShLeft v x y z sh name kw rname nx ny nz good = shift_at-printed DivShLeft sh good good
-shift_of-printed other v x y z sh name kw rname nx ny nz good = ap (λ n. Ok n) (sym (eqb-true sh 0 good))
+numbers_are : (ranges : List Range) (numbers : List ℤ) (k : ℕ) (words rest : List (List ℕ)) → list_all is_short ranges ≡ true → in_ranges ranges numbers ≡ true → drop k words ≡ number_words numbers ++ rest → are_numbers ranges k words ≡ true
+unfolding are_numbers
+numbers_are [] [] k words rest short h e = refl
+numbers_are (r ∷ ranges) [] k words rest short h e = absurd (cc)
+numbers_are [] (n ∷ numbers) k words rest short h e = absurd (cc)
+numbers_are (r ∷ ranges) (n ∷ numbers) k words rest short h e =
+    let here = at_drop words k (signed_decimal n) (number_words numbers ++ rest) e in
+    let inside = and_parts (in_range r n) (in_ranges ranges numbers) h in
+    let s = and_parts (is_short r) (list_all is_short ranges) short in
+    rw (here.0, number_read r n s.0 inside.0) (numbers_are ranges numbers (k + 1) words rest s.1 inside.1 here.1)
+
+numbers_printed : (so_far : List ℤ) (ranges : List Range) (numbers : List ℤ) (k : ℕ) (words rest : List (List ℕ)) → list_all is_short ranges ≡ true → in_ranges ranges numbers ≡ true → drop k words ≡ number_words numbers ++ rest → numbers_in so_far ranges k words ≡ Ok (so_far ++ numbers)
+unfolding numbers_in number_in
+numbers_printed so_far [] [] k words rest short h e = ap (λ l. Ok l) (sym (append-nil so_far))
+numbers_printed so_far (r ∷ ranges) [] k words rest short h e = absurd (cc)
+numbers_printed so_far [] (n ∷ numbers) k words rest short h e = absurd (cc)
+numbers_printed so_far (r ∷ ranges) (n ∷ numbers) k words rest short h e =
+    let here = at_drop words k (signed_decimal n) (number_words numbers ++ rest) e in
+    let inside = and_parts (in_range r n) (in_ranges ranges numbers) h in
+    let s = and_parts (is_short r) (list_all is_short ranges) short in
+    rw (here.0, number_read r n s.0 inside.0, inside.0) (numbers_printed (so_far ++ n ∷ []) ranges numbers (k + 1) words rest s.1 inside.1 here.1 ∙ ap (λ l. Ok l) (append_assoc so_far (n ∷ []) numbers))
 
 -- ---- the whole
 
--- how many words stand in a routine's line
-length-routine_line : (name kw rname : List ℕ) (types : List Ty) (names places : List (List ℕ)) → length types ≤ length names → length (routine_line name kw rname types names places) ≡ 5 + length types + length places
-length-routine_line name kw rname types names places few =
-    let front = length-take-le (length types) names few in
-    omega (arith, length-append (take (length types) names) places)
+-- what the tests of a valid network say of a form
+pub record IsGoodForm (net : NetData) (i : ℕ) (kind : Kind) (form : Form) : Type 0 where
+  pub built : is_built form.routine ≡ true
+  pub taken : takes_form form ≡ true
+  pub earlier : wires_earlier i form.wires ≡ true
+  pub agree : wires_agree net.wires (signature_in form).sorts form.wires ≡ true
+  pub gives : is_of_sort (signature_in form).gives kind ≡ true
+  pub fits : numbers_fit form ≡ true
 
-length-shift_words : (op : ArithOp) (v : Variant) (x y z : WireNo) (sh : ℕ) → length (shift_words (Arith op v x y z sh)) ≡ cond (has_shift op) 1 0
-length-shift_words MulShRight v x y z sh = refl
-length-shift_words DivShLeft v x y z sh = refl
-length-shift_words other v x y z sh = refl
+length_given : (all : List Wire) (given : List WireNo) (numbers : List ℤ) → length (argument_words all given ++ number_words numbers) ≡ length given + length numbers
+length_given all given numbers = simp (length-append, length-map)
 
-pub arith_line : (wires : List Wire) (i : ℕ) (op : ArithOp) (v : Variant) (x y z : WireNo) (sh : ℕ) (name kw rname : List ℕ) → are_distinct (map (λ w. w.name) wires) ≡ true → i ≤ length wires
-    → reads_earlier i (Arith op v x y z sh) ≡ true → arguments_agree wires (Arith op v x y z sh) ≡ true → is_shift op sh ≡ true
-    → IsReadAs (take i wires) (block_line name kw rname (argument_words wires (Arith op v x y z sh) ++ shift_words (Arith op v x y z sh))) (ArithOf op v) x.0 y.0 z.0 sh
-arith_line wires i op v x y z sh name kw rname distinct within earlier given good =
-    let types = argument_types op v in
-    let some = few_types op v in
-    let places = shift_words (Arith op v x y z sh) in
-    let names = names_of wires x.0 y.0 z.0 in
-    let read = are_read wires i x.0 y.0 z.0 name kw rname types places distinct within some.0 some.1 earlier given in
-    let few : length types ≤ length names = omega arith in
-    let count : length (routine_line name kw rname types names places) ≡ 5 + length types + cond (has_shift op) 1 0 =
-    length-routine_line name kw rname types names places few ∙ ap (λ n. 5 + length types + n) (length-shift_words op v x y z sh) in
-    record {
-      long = le-leb 6 (length (routine_line name kw rname types names places)) (omega arith);
-      counted = eq-eqb _ _ count;
-      first = read.first;
-      second = read.second;
-      third = read.third;
-      shift = shift_of-printed op v x y z sh name kw rname (wire_at wires x.0).name (wire_at wires y.0).name (wire_at wires z.0).name good;
-    }
+given_printed : (lines : List (List ℕ)) (net : NetData) (i : ℕ) (name : List ℕ) (kind : Kind) (form : Form) → are_distinct (map (λ w. w.name) net.wires) ≡ true → i ≤ length net.wires
+    → IsNew (take i net.wires) name → is_good_kind kind ≡ true → IsGoodForm net i kind form
+    → given_line lines (first_wires net i) form.routine form.types (signature_in form) (block_line net.wires name kind form) ≡ Ok (record { kind = kind; form = form })
+unfolding given_line agreed
+given_printed lines net i name kind form distinct within new good is =
+    let all = net.wires in
+    let words = block_line all name kind form in
+    let sig = signature_in form in
+    let rest = number_words form.numbers in
+    let sorts = same_lengths (λ sort w. is_of_sort sort (wire_at all w.0).kind) sig.sorts form.wires is.agree in
+    let ranges = same_lengths in_range sig.ranges form.numbers is.fits in
+    let short = ranges_are_short form.routine form.types in
+    let behind : drop (5 + length sig.sorts) words ≡ rest ++ [] = ap (λ n. drop (5 + n) words) sorts ∙ behind_names all form.wires 5 words rest refl ∙ sym (append-nil rest) in
+    let count : eqb (length words) (5 + length sig.sorts + length sig.ranges) ≡ true = let n = length_given all form.wires form.numbers in eq-eqb (length words) (5 + length sig.sorts + length sig.ranges) (omega arith) in
+    let known = known_printed lines all i sig.sorts form.wires 5 words rest distinct within sorts is.earlier refl in
+    let read = wires_printed all i [] sig.sorts form.wires 5 words rest distinct within sorts is.earlier refl in
+    let fits = agree_so_far all i sig.sorts form.wires is.earlier is.agree in
+    let are = numbers_are sig.ranges form.numbers (5 + length sig.sorts) words [] short is.fits behind in
+    let numbers = numbers_printed [] sig.ranges form.numbers (5 + length sig.sorts) words [] short is.fits behind in
+    rw (count, is_position-kind_word kind, known, read, kind_of-kind_word kind good, is.taken, fits, is.gives, are, numbers, new.room)
 
-pub scaled_line : (wires : List Wire) (i : ℕ) (op : ScaledOp) (v : Variant) (x y : WireNo) (name kw rname : List ℕ) → are_distinct (map (λ w. w.name) wires) ≡ true → i ≤ length wires
-    → reads_earlier i (Scaled op v x y) ≡ true → arguments_agree wires (Scaled op v x y) ≡ true
-    → IsReadAs (take i wires) (block_line name kw rname (argument_words wires (Scaled op v x y) ++ [])) (ScaledOf op v) x.0 y.0 x.0 0
-unfolding shift_of
-scaled_line wires i Convert v x y name kw rname distinct within earlier given =
-    let read = are_read wires i x.0 y.0 x.0 name kw rname (v.x ∷ []) [] distinct within (omega arith) (omega arith) earlier given in
-    record {
-      long = refl;
-      counted = refl;
-      first = read.first;
-      second = read.second;
-      third = read.third;
-      shift = refl;
-    }
-scaled_line wires i other v x y name kw rname distinct within earlier given =
-    let read = are_read wires i x.0 y.0 x.0 name kw rname (v.x ∷ v.y ∷ []) [] distinct within (omega arith) (omega arith) earlier given in
-    record {
-      long = refl;
-      counted = refl;
-      first = read.first;
-      second = read.second;
-      third = read.third;
-      shift = refl;
-    }
+pub form_printed : (lines : List (List ℕ)) (net : NetData) (i : ℕ) (name : List ℕ) (kind : Kind) (form : Form) → are_distinct (map (λ w. w.name) net.wires) ≡ true → i ≤ length net.wires
+    → IsNew (take i net.wires) name → is_good_kind kind ≡ true → IsGoodForm net i kind form
+    → wire_line lines (first_wires net i) (block_line net.wires name kind form) ≡ Ok (record { kind = kind; item = OfBlock (block_of form) })
+unfolding wire_line fresh
+form_printed lines net i name kind form distinct within new good is =
+    let words = block_line net.wires name kind form in
+    let found = routine_at-routine_name form.routine form.types is.built is.taken in
+    let long : leb 6 (length words) ≡ true = le-leb 6 (length words) (let n = length_given net.wires form.wires form.numbers in
+    let sorts = same_lengths (λ sort w. is_of_sort sort (wire_at net.wires w.0).kind) (signature_in form).sorts form.wires is.agree in
+    let some = reads_some form.routine form.types is.built in omega arith) in
+    rw (long, new.named, new.fresh, kind_of-kind_word kind good, found, given_printed lines net i name kind form distinct within new good is)

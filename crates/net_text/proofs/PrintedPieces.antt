@@ -13,6 +13,11 @@ behind_spaces_append [] b = refl
 behind_spaces_append (word ∷ a) b =
     ap (λ l. 32 ∷ word ++ l) (behind_spaces_append a b) ∙ ap (λ l. 32 ∷ l) (sym (append_assoc word (behind_spaces a) (behind_spaces b)))
 
+-- words that are pushed in two steps
+pub joined_given : {A E : Type 0} (r : Result A E) (old between new : List ℕ) (a b : List (List ℕ)) → between ≡ old ++ behind_spaces a → OnOk r (new ≡ between ++ behind_spaces b) → OnOk r (new ≡ old ++ behind_spaces (a ++ b))
+joined_given (Ok v) old between new a b e h = h ∙ ap (λ l. l ++ behind_spaces b) e ∙ append_assoc old (behind_spaces a) (behind_spaces b) ∙ ap (λ l. old ++ l) (sym (behind_spaces_append a b))
+joined_given (Err f) old between new a b e h = tt
+
 lines_below_append : (a b : List (List (List ℕ))) → lines_below (a ++ b) ≡ lines_below a ++ lines_below b
 lines_below_append [] b = refl
 lines_below_append (words ∷ a) b =
@@ -31,11 +36,10 @@ lines_joined first a b =
     ∙ lines_ended first (a ++ b)
 
 -- the types of each wire agree
-pub wire_agrees : (net : NetData) (wires : List Wire) (i : ℕ) (w : Wire) → wires ≡ net.wires → IsValid net → i < length wires → w ≡ wire_at wires i → item_agrees wires w.kind w.item ≡ true
+pub wire_agrees : (net : NetData) (wires : List Wire) (i : ℕ) (w : Wire) → wires ≡ net.wires → IsValid net → i < length wires → w ≡ wire_at wires i → item_agrees net w.kind w.item ≡ true
 wire_agrees net wires i w same valid within is =
-    subst (λ w. item_agrees wires w.kind w.item ≡ true) (sym is)
-    (subst (λ l. i < length l → item_agrees l (wire_at l i).kind (wire_at l i).item ≡ true) (sym same)
-    (λ below. (good_item-valid net i (wire_at net.wires i).item valid below refl).agreed) within)
+    subst (λ w. item_agrees net w.kind w.item ≡ true) (sym (is ∙ ap (λ l. wire_at l i) same))
+    (good_item-valid net i (wire_at net.wires i).item valid (subst (λ l. i < length l) same within) refl).agreed
 
 -- one word more at a line's end
 word_joined : (old between word added : List ℕ) (words : List (List ℕ)) → between ≡ old ++ 10 ∷ spaced (word ∷ words) → between ++ 32 ∷ added ≡ old ++ 10 ∷ spaced (word ∷ (words ++ added ∷ []))

@@ -1,32 +1,27 @@
--- The name of a block's routine is a word, and is read as the routine.
+-- The name of a routine is a word, and is read as the routine.
 use Rattle.std.proofs.Common.{◌≡◌, ℕ, zero, suc, ◌<◌, Bool, true, List, [], ◌∷◌, length, slice_index_or, Some, Ok, refl, ap, subst, ◌∙◌, arith}
 use Rattle.std.specs.List.{list_all}
 use Rattle.std.proofs.lemmas.Bool.{and_parts}
 use Rattle.text_words.proofs.PrintedWords.{is_printed, is_word, printed-append, printed-word, is_word-append}
 use Rattle.fx_core.specs.declared.word_type.Ty.{Ty}
-use Rattle.fx_routines.specs.declared.operation.Variant.{Variant}
+use Rattle.fx_routines.specs.declared.operation.Types.{Types}
 use Rattle.fx_routines.specs.declared.shape.Part.{Part}
 use Rattle.fx_routines.specs.declared.shape.Part.TheVariants as part
-use Rattle.fx_routines.specs.declared.table.Routine.{Routine as Named}
-use Rattle.fx_routines.specs.declared.table.Routine.TheVariants.{Arith as NamedArith, Scaled as NamedScaled}
+use Rattle.fx_routines.specs.declared.table.Routine.{Routine}
 use Rattle.fx_routines.specs.Rows.{Row, rows, front_of, parts_of}
 use Rattle.fx_routines.specs.Names.{type_word, part_word, words, takes, routine_name, IsNameOf}
 use Rattle.fx_routines.specs.Reading.{named}
 use Rattle.fx_routines.proofs.NameLaws.{named_gives, taken_names}
-use Rattle.net_model.specs.declared.wires.Block.{Block}
-use Rattle.net_model.specs.declared.wires.Block.TheVariants.{Arith, Scaled}
-use Rattle.net_model.specs.Validity.{is_built_block, takes_block}
+use Rattle.net_model.specs.Built.{is_built}
 use Rattle.net_text.specs.RoutineWords.{routine_at}
-use Rattle.net_text.specs.Printing.{block_name}
 use Rattle.net_text.proofs.PrintedKinds.{is_word-type_word}
-use Rattle.net_text.proofs.PrintedWires.{routine_of_block}
 
 -- ---- names are words
 
 printed-type : (ty : Ty) → list_all is_printed (type_word ty) ≡ true
 printed-type ty = printed-word (type_word ty) (is_word-type_word ty)
 
-printed-part : (p : Part) (v : Variant) → list_all is_printed (part_word p v) ≡ true
+printed-part : (p : Part) (v : Types) → list_all is_printed (part_word p v) ≡ true
 printed-part (part.First class) v = printed-type v.x
 printed-part (part.Second class) v = printed-type v.y
 printed-part (part.Output class) v = printed-type v.o
@@ -37,7 +32,7 @@ printed-part part.S8 v = refl
 printed-part part.Bool v = refl
 printed-part part.Underscore v = refl
 
-printed-words : (parts : List Part) (v : Variant) → list_all is_printed (words parts v) ≡ true
+printed-words : (parts : List Part) (v : Types) → list_all is_printed (words parts v) ≡ true
 printed-words [] v = refl
 printed-words (p ∷ parts) v = printed-append (part_word p v) (words parts v) (printed-part p v) (printed-words parts v)
 
@@ -51,7 +46,7 @@ holds_at p (x ∷ xs) h zero d lt = (and_parts (p x) (list_all p xs) h).0
 holds_at p (x ∷ xs) h (suc k) d lt = holds_at p xs (and_parts (p x) (list_all p xs) h).1 k d (omega arith)
 
 -- a name of a row is a word
-is_word-name_of : (routine : Named) (v : Variant) (word : List ℕ) → IsNameOf routine v word → is_word word ≡ true
+is_word-name_of : (routine : Routine) (v : Types) (word : List ℕ) → IsNameOf routine v word → is_word word ≡ true
 is_word-name_of routine v word n =
     let row = n.1 in
     let front : is_word (front_of row) ≡ true = subst (λ r. is_word (front_of r) ≡ true) n.3 (holds_at (λ r. is_word (front_of r)) rows fronts_are_words n.0 row n.2) in
@@ -60,17 +55,14 @@ is_word-name_of routine v word n =
 -- ---- names are read again
 
 -- a routine's name is read as the routine, at types that it takes
-named-routine_name : (routine : Named) (v : Variant) → takes routine v ≡ true → named (routine_name routine v) ≡ Some (routine, v)
+named-routine_name : (routine : Routine) (v : Types) → takes routine v ≡ true → named (routine_name routine v) ≡ Some (routine, v)
 named-routine_name routine v take = (taken_names routine v).0 take
 
 -- the name is a word
-pub is_word-block_name : (b : Block) → takes_block b ≡ true → is_word (block_name b) ≡ true
-unfolding block_name
-is_word-block_name (Arith op v x y z sh) test = is_word-name_of (NamedArith op) v (routine_name (NamedArith op) v) (named_gives (routine_name (NamedArith op) v) (NamedArith op) v (named-routine_name (NamedArith op) v test))
-is_word-block_name (Scaled op v x y) test = is_word-name_of (NamedScaled op) v (routine_name (NamedScaled op) v) (named_gives (routine_name (NamedScaled op) v) (NamedScaled op) v (named-routine_name (NamedScaled op) v test))
+pub is_word-routine_name : (routine : Routine) (v : Types) → takes routine v ≡ true → is_word (routine_name routine v) ≡ true
+is_word-routine_name routine v take = is_word-name_of routine v (routine_name routine v) (named_gives (routine_name routine v) routine v (named-routine_name routine v take))
 
--- and is read as the routine
-pub routine_at-block_name : (b : Block) → is_built_block b ≡ true → takes_block b ≡ true → routine_at (block_name b) ≡ Ok (routine_of_block b)
-unfolding routine_at block_name
-routine_at-block_name (Arith op v x y z sh) built test = rw (named-routine_name (NamedArith op) v test, built) refl
-routine_at-block_name (Scaled op v x y) built test = rw (named-routine_name (NamedScaled op) v test) refl
+-- and is read as the routine, where that is built
+pub routine_at-routine_name : (routine : Routine) (v : Types) → is_built routine ≡ true → takes routine v ≡ true → routine_at (routine_name routine v) ≡ Ok (routine, v)
+unfolding routine_at
+routine_at-routine_name routine v built take = rw (named-routine_name routine v take, built) refl

@@ -14,11 +14,12 @@ use Rattle.net_model.specs.declared.wires.Kind.{Kind}
 use Rattle.net_model.specs.declared.wires.Item.{Item}
 use Rattle.net_model.specs.declared.wires.Item.TheVariants.{Input, Const, Block as OfBlock}
 use Rattle.net_model.specs.declared.wires.Wire.{Wire}
-use Rattle.net_model.specs.Wires.{NetData, no_wire, wire_at, place_of, is_input}
+use Rattle.net_model.specs.Wires.{NetData, no_net, no_wire, wire_at, place_of, is_input}
 use Rattle.net_model.specs.Validity.{are_distinct, are_distinct_outs}
 use Rattle.net_text.specs.Text.{after_out, after_line, net_reader, network_of}
 use Rattle.net_text.specs.Printing.{wire_words, out_words, words_printed, text_of}
 use Rattle.net_text.proofs.PrintedNames.{place_of-wire_at, is_wire-next, next_output_is_new}
+use Rattle.net_text.proofs.PrintedBlocks.{first_wires}
 use Rattle.net_text.proofs.PrintedForms.{IsNew, out_line-reads}
 use Rattle.net_text.proofs.PrintedWires.{IsPrintable, after_wire}
 
@@ -34,46 +35,46 @@ one_line_read lines above net next words rest good some gives =
 -- ---- wires
 
 -- wires of distinct names, each of which is printed and read
-pub record AreReadable (wires : List Wire) : Type 0 where
-  pub few : length wires ≤ 512
-  pub distinct : are_distinct (map (λ w. w.name) wires) ≡ true
-  pub named : (i : ℕ) → i < length wires → is_name (wire_at wires i).name ≡ true
-  pub printable : (i : ℕ) → i < length wires → IsPrintable wires i (wire_at wires i).kind (wire_at wires i).item
-  pub words : (i : ℕ) → i < length wires → are_words (wire_words wires (wire_at wires i)) ≡ true
+pub record AreReadable (net : NetData) : Type 0 where
+  pub few : length net.wires ≤ 512
+  pub distinct : are_distinct (map (λ w. w.name) net.wires) ≡ true
+  pub named : (i : ℕ) → i < length net.wires → is_name (wire_at net.wires i).name ≡ true
+  pub printable : (i : ℕ) → i < length net.wires → IsPrintable net i (wire_at net.wires i).kind (wire_at net.wires i).item
+  pub words : (i : ℕ) → i < length net.wires → are_words (wire_words net.wires (wire_at net.wires i)) ≡ true
 
-next_is_new : (wires : List Wire) (i : ℕ) → AreReadable wires → i < length wires → IsNew (take i wires) (wire_at wires i).name
-next_is_new wires i ok within =
-    let long = length-take-le i wires (omega arith) in
+next_is_new : (net : NetData) (i : ℕ) → AreReadable net → i < length net.wires → IsNew (take i net.wires) (wire_at net.wires i).name
+next_is_new net i ok within =
+    let long = length-take-le i net.wires (omega arith) in
     let few = ok.few in
-    record { named = ok.named i within; fresh = is_wire-next wires i ok.distinct within; room = lt-ltb (length (take i wires)) 512 (omega arith) }
+    record { named = ok.named i within; fresh = is_wire-next net.wires i ok.distinct within; room = lt-ltb (length (take i net.wires)) 512 (omega arith) }
 
 wire_has_words : (wires : List Wire) (name : List ℕ) (kind : Kind) (item : Item) → 0 < length (wire_words wires (record { name = name; kind = kind; item = item }))
 wire_has_words wires name kind (Input lo hi) = omega arith
 wire_has_words wires name kind (Const value) = omega arith
 wire_has_words wires name kind (OfBlock b) = omega arith
 
-after_next_wire : (lines : List (List ℕ)) (wires : List Wire) (i : ℕ) → AreReadable wires → i < length wires
-    → after_line lines (record { wires = take i wires; outs = [] }) (wire_words wires (wire_at wires i)) ≡ Ok (record { wires = take (suc i) wires; outs = [] })
-after_next_wire lines wires i ok within =
-    let w = wire_at wires i in
-    after_wire lines wires [] i w.name w.kind w.item ok.distinct (omega arith) (next_is_new wires i ok within) (ok.printable i within)
-    ∙ ap (λ l. Ok (record { wires = l; outs = [] })) (sym (take-suc wires i no_wire within))
+after_next_wire : (lines : List (List ℕ)) (net : NetData) (i : ℕ) → AreReadable net → i < length net.wires
+    → after_line lines (first_wires net i) (wire_words net.wires (wire_at net.wires i)) ≡ Ok (first_wires net (suc i))
+after_next_wire lines net i ok within =
+    let w = wire_at net.wires i in
+    after_wire lines net i w.name w.kind w.item ok.distinct (omega arith) (next_is_new net i ok within) (ok.printable i within)
+    ∙ ap (λ l. Ok (record { wires = l; outs = [] })) (sym (take-suc net.wires i no_wire within))
 
 -- the lines of the wires from number i on
-wires_read : (lines : List (List ℕ)) (wires : List Wire) (rest : List (List (List ℕ))) → AreReadable wires → (left i above : ℕ) → i + left ≡ length wires
-    → read_below (net_reader lines) above (record { wires = take i wires; outs = [] }) (map spaced (map (wire_words wires) (drop i wires) ++ rest)) ≡ read_below (net_reader lines) (above + left) (record { wires = wires; outs = [] }) (map spaced rest)
-wires_read lines wires rest ok zero i above all =
+wires_read : (lines : List (List ℕ)) (net : NetData) (rest : List (List (List ℕ))) → AreReadable net → (left i above : ℕ) → i + left ≡ length net.wires
+    → read_below (net_reader lines) above (first_wires net i) (map spaced (map (wire_words net.wires) (drop i net.wires) ++ rest)) ≡ read_below (net_reader lines) (above + left) (record { wires = net.wires; outs = [] }) (map spaced rest)
+wires_read lines net rest ok zero i above all =
     let end : above ≡ above + 0 = omega arith in
-    ap (λ l. read_below (net_reader lines) above (record { wires = take i wires; outs = [] }) (map spaced (map (wire_words wires) l ++ rest))) (drop_of_length-le wires {i = i} (omega arith))
-    ∙ ap (λ l. read_below (net_reader lines) above (record { wires = l; outs = [] }) (map spaced rest)) (take_all i wires (omega arith))
-    ∙ ap (λ n. read_below (net_reader lines) n (record { wires = wires; outs = [] }) (map spaced rest)) end
-wires_read lines wires rest ok (suc left) i above all =
-    let within : i < length wires = omega arith in
+    ap (λ l. read_below (net_reader lines) above (first_wires net i) (map spaced (map (wire_words net.wires) l ++ rest))) (drop_of_length-le net.wires {i = i} (omega arith))
+    ∙ ap (λ l. read_below (net_reader lines) above (record { wires = l; outs = [] }) (map spaced rest)) (take_all i net.wires (omega arith))
+    ∙ ap (λ n. read_below (net_reader lines) n (record { wires = net.wires; outs = [] }) (map spaced rest)) end
+wires_read lines net rest ok (suc left) i above all =
+    let within : i < length net.wires = omega arith in
     let end : above + 1 + left ≡ above + suc left = omega arith in
-    ap (λ l. read_below (net_reader lines) above (record { wires = take i wires; outs = [] }) (map spaced (map (wire_words wires) l ++ rest))) (drop-cons wires i no_wire within)
-    ∙ one_line_read lines above (record { wires = take i wires; outs = [] }) (record { wires = take (suc i) wires; outs = [] }) (wire_words wires (wire_at wires i)) (map spaced (map (wire_words wires) (drop (suc i) wires) ++ rest)) (ok.words i within) (wire_has_words wires (wire_at wires i).name (wire_at wires i).kind (wire_at wires i).item) (after_next_wire lines wires i ok within)
-    ∙ wires_read lines wires rest ok left (suc i) (above + 1) (omega arith)
-    ∙ ap (λ n. read_below (net_reader lines) n (record { wires = wires; outs = [] }) (map spaced rest)) end
+    ap (λ l. read_below (net_reader lines) above (first_wires net i) (map spaced (map (wire_words net.wires) l ++ rest))) (drop-cons net.wires i no_wire within)
+    ∙ one_line_read lines above (first_wires net i) (first_wires net (suc i)) (wire_words net.wires (wire_at net.wires i)) (map spaced (map (wire_words net.wires) (drop (suc i) net.wires) ++ rest)) (ok.words i within) (wire_has_words net.wires (wire_at net.wires i).name (wire_at net.wires i).kind (wire_at net.wires i).item) (after_next_wire lines net i ok within)
+    ∙ wires_read lines net rest ok left (suc i) (above + 1) (omega arith)
+    ∙ ap (λ n. read_below (net_reader lines) n (record { wires = net.wires; outs = [] }) (map spaced rest)) end
 
 -- ---- outputs
 
@@ -87,40 +88,40 @@ pub record AreOutputs (wires : List Wire) (outs : List WireNo) : Type 0 where
   pub distinct : are_distinct_outs outs ≡ true
   pub words : (j : ℕ) → j < length outs → are_words (out_words wires (get_or outs j no_out)) ≡ true
 
-place_of-output : (wires : List Wire) (a : ℕ) → AreReadable wires → a < length wires → place_of wires (wire_at wires a).name ≡ Some a
-place_of-output wires a ok within =
-    sym (ap (λ l. place_of l (wire_at wires a).name) (take_all (length wires) wires (omega arith))) ∙ place_of-wire_at wires (length wires) a ok.distinct within (omega arith)
+place_of-output : (net : NetData) (a : ℕ) → AreReadable net → a < length net.wires → place_of net.wires (wire_at net.wires a).name ≡ Some a
+place_of-output net a ok within =
+    sym (ap (λ l. place_of l (wire_at net.wires a).name) (take_all (length net.wires) net.wires (omega arith))) ∙ place_of-wire_at net.wires (length net.wires) a ok.distinct within (omega arith)
 
-after_next_out : (lines : List (List ℕ)) (wires : List Wire) (outs : List WireNo) (j : ℕ) → AreReadable wires → AreOutputs wires outs → j < length outs
-    → after_line lines (record { wires = wires; outs = take j outs }) (out_words wires (get_or outs j no_out)) ≡ Ok (record { wires = wires; outs = take (suc j) outs })
+after_next_out : (lines : List (List ℕ)) (net : NetData) (j : ℕ) → AreReadable net → AreOutputs net.wires net.outs → j < length net.outs
+    → after_line lines (record { wires = net.wires; outs = take j net.outs }) (out_words net.wires (get_or net.outs j no_out)) ≡ Ok (record { wires = net.wires; outs = take (suc j) net.outs })
 unfolding after_line after_out
-after_next_out lines wires outs j ok out_ok within =
-    let o = get_or outs j no_out in
+after_next_out lines net j ok out_ok within =
+    let o = get_or net.outs j no_out in
     let there = out_ok.there j within in
-    rw (out_line-reads lines wires (take j outs) (wire_at wires o.0).name o (ok.named o.0 there) (place_of-output wires o.0 ok there) (next_output_is_new outs j no_out out_ok.distinct within))
-    (ap (λ l. Ok (record { wires = wires; outs = l })) (sym (take-suc outs j no_out within)))
+    rw (out_line-reads lines net.wires (take j net.outs) (wire_at net.wires o.0).name o (ok.named o.0 there) (place_of-output net o.0 ok there) (next_output_is_new net.outs j no_out out_ok.distinct within))
+    (ap (λ l. Ok (record { wires = net.wires; outs = l })) (sym (take-suc net.outs j no_out within)))
 
 -- the lines of the outputs from number j on
-outs_read : (lines : List (List ℕ)) (wires : List Wire) (outs : List WireNo) → AreReadable wires → AreOutputs wires outs → (left j above : ℕ) → j + left ≡ length outs
-    → read_below (net_reader lines) above (record { wires = wires; outs = take j outs }) (map spaced (map (out_words wires) (drop j outs))) ≡ read_below (net_reader lines) (above + left) (record { wires = wires; outs = outs }) []
-outs_read lines wires outs ok out_ok zero j above all =
+outs_read : (lines : List (List ℕ)) (net : NetData) → AreReadable net → AreOutputs net.wires net.outs → (left j above : ℕ) → j + left ≡ length net.outs
+    → read_below (net_reader lines) above (record { wires = net.wires; outs = take j net.outs }) (map spaced (map (out_words net.wires) (drop j net.outs))) ≡ read_below (net_reader lines) (above + left) (record { wires = net.wires; outs = net.outs }) []
+outs_read lines net ok out_ok zero j above all =
     let end : above ≡ above + 0 = omega arith in
-    ap (λ l. read_below (net_reader lines) above (record { wires = wires; outs = take j outs }) (map spaced (map (out_words wires) l))) (drop_of_length-le outs {i = j} (omega arith))
-    ∙ ap (λ l. read_below (net_reader lines) above (record { wires = wires; outs = l }) []) (take_all j outs (omega arith))
-    ∙ ap (λ n. read_below (net_reader lines) n (record { wires = wires; outs = outs }) []) end
-outs_read lines wires outs ok out_ok (suc left) j above all =
-    let within : j < length outs = omega arith in
+    ap (λ l. read_below (net_reader lines) above (record { wires = net.wires; outs = take j net.outs }) (map spaced (map (out_words net.wires) l))) (drop_of_length-le net.outs {i = j} (omega arith))
+    ∙ ap (λ l. read_below (net_reader lines) above (record { wires = net.wires; outs = l }) []) (take_all j net.outs (omega arith))
+    ∙ ap (λ n. read_below (net_reader lines) n (record { wires = net.wires; outs = net.outs }) []) end
+outs_read lines net ok out_ok (suc left) j above all =
+    let within : j < length net.outs = omega arith in
     let end : above + 1 + left ≡ above + suc left = omega arith in
-    ap (λ l. read_below (net_reader lines) above (record { wires = wires; outs = take j outs }) (map spaced (map (out_words wires) l))) (drop-cons outs j no_out within)
-    ∙ one_line_read lines above (record { wires = wires; outs = take j outs }) (record { wires = wires; outs = take (suc j) outs }) (out_words wires (get_or outs j no_out)) (map spaced (map (out_words wires) (drop (suc j) outs))) (out_ok.words j within) (omega arith) (after_next_out lines wires outs j ok out_ok within)
-    ∙ outs_read lines wires outs ok out_ok left (suc j) (above + 1) (omega arith)
-    ∙ ap (λ n. read_below (net_reader lines) n (record { wires = wires; outs = outs }) []) end
+    ap (λ l. read_below (net_reader lines) above (record { wires = net.wires; outs = take j net.outs }) (map spaced (map (out_words net.wires) l))) (drop-cons net.outs j no_out within)
+    ∙ one_line_read lines above (record { wires = net.wires; outs = take j net.outs }) (record { wires = net.wires; outs = take (suc j) net.outs }) (out_words net.wires (get_or net.outs j no_out)) (map spaced (map (out_words net.wires) (drop (suc j) net.outs))) (out_ok.words j within) (omega arith) (after_next_out lines net j ok out_ok within)
+    ∙ outs_read lines net ok out_ok left (suc j) (above + 1) (omega arith)
+    ∙ ap (λ n. read_below (net_reader lines) n (record { wires = net.wires; outs = net.outs }) []) end
 
 -- ---- the whole
 
 -- a network whose lines are read as itself
 pub record IsReadable (net : NetData) : Type 0 where
-  pub wires : AreReadable net.wires
+  pub wires : AreReadable net
   pub outs : AreOutputs net.wires net.outs
   pub has_input : list_any (λ w. is_input w.item) net.wires ≡ true
   pub has_output : nat_lt 0 (length net.outs) ≡ true
@@ -130,15 +131,15 @@ end_read : (lines : List (List ℕ)) (above : ℕ) (net : NetData) → list_any 
 end_read lines above net has_input has_output = read_below-complete (net_reader lines) above net (and_from _ _ has_input has_output)
 
 -- the head, and the lines below it
-head_read : (lines : List (List ℕ)) (rest : List (List ℕ)) → read_from (net_reader lines) (head_below (codes "net") 0 (spaced (codes "net" ∷ codes "1" ∷ []) ∷ rest)) ≡ read_below (net_reader lines) 1 (record { wires = []; outs = [] }) rest
+head_read : (lines : List (List ℕ)) (rest : List (List ℕ)) → read_from (net_reader lines) (head_below (codes "net") 0 (spaced (codes "net" ∷ codes "1" ∷ []) ∷ rest)) ≡ read_below (net_reader lines) 1 no_net rest
 unfolding head_below
 head_read lines rest = rw (words_of-spaced (codes "net" ∷ codes "1" ∷ []) refl)
 
 lines_printed : (lines : List (List ℕ)) (net : NetData) → IsReadable net → read_from (net_reader lines) (head_below (codes "net") 0 (map spaced (words_printed net))) ≡ Ok net
 lines_printed lines net ok =
     head_read lines (map spaced (map (wire_words net.wires) net.wires ++ map (out_words net.wires) net.outs))
-    ∙ wires_read lines net.wires (map (out_words net.wires) net.outs) ok.wires (length net.wires) 0 1 (omega arith)
-    ∙ outs_read lines net.wires net.outs ok.wires ok.outs (length net.outs) 0 (1 + length net.wires) (omega arith)
+    ∙ wires_read lines net (map (out_words net.wires) net.outs) ok.wires (length net.wires) 0 1 (omega arith)
+    ∙ outs_read lines net ok.wires ok.outs (length net.outs) 0 (1 + length net.wires) (omega arith)
     ∙ end_read lines (1 + length net.wires + length net.outs) net ok.has_input ok.has_output
 
 -- the text is read as the network

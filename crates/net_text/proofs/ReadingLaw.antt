@@ -1,53 +1,60 @@
 -- Whatever a text says is valid.
-use Rattle.std.proofs.Common.{◌≡◌, ℕ, suc, ◌+◌, ◌<◌, ◌≤◌, Bool, true, false, not, ◌&&◌, ◌||◌, ◌==◌, cond, nat_le, nat_lt, List, [], ◌∷◌, ◌++◌, map, length, codes, bytes_eq, refl, sym, ap, ap₂, subst, ◌∙◌, Result, Ok, Err, arith, length-append, zero-add, add-zero}
-use Rattle.std.specs.Prelude.{Option, Some, None}
+use Rattle.std.proofs.Common.{◌≡◌, ℕ, suc, ◌+◌, ◌<◌, ◌≤◌, Bool, true, false, not, ◌&&◌, ◌||◌, ◌==◌, cond, nat_le, nat_lt, List, [], ◌∷◌, ◌++◌, map, length, codes, bytes_eq, refl, sym, ap, ap₂, subst, ◌∙◌, Result, Ok, Err, arith, length-append, append-nil, zero-add, add-zero}
 use Rattle.std.specs.List.{list_any, list_all}
 use Rattle.std.proofs.Math.ListN.{get_or-append}
 use Rattle.std.proofs.lemmas.List.Folds.{list_any-append, list_all-append}
+use Rattle.std.proofs.lemmas.List.{map-append}
 use Rattle.std.proofs.lemmas.Bool.{and_parts}
 use Rattle.std.proofs.lemmas.Bool.Decides.{nat_tests}
 use Rattle.text_words.specs.Names.{is_name}
 use Rattle.text_words.specs.Lines.{lines_of, nth}
-use Rattle.fx_core.specs.declared.word_type.Ty.{Ty}
 use Rattle.net_model.specs.declared.network.NetKind.{NetKind}
 use Rattle.net_model.specs.declared.wires.WireNo.{WireNo}
 use Rattle.net_model.specs.declared.wires.Kind.{Kind}
-use Rattle.net_model.specs.declared.wires.Block.{Block}
 use Rattle.net_model.specs.declared.wires.Item.{Item}
 use Rattle.net_model.specs.declared.wires.Item.TheVariants.{Input, Const, Block as OfBlock}
 use Rattle.net_model.specs.declared.wires.Wire.{Wire}
 use Rattle.net_text.specs.declared.line_forms.Content.{Content}
-use Rattle.net_model.specs.Wires.{NetData, no_wire, argument_of}
-use Rattle.net_model.specs.Validity.{is_number_of, type_read, takes_block, output_type, is_earlier, argument_agrees, reads_earlier, arguments_agree, is_built_item, item_reads_earlier, item_agrees, item_in_range, is_good_wire, is_good_kind, are_good_from, are_distinct, is_among, are_distinct_outs, has_ends, is_valid, IsValid}
+use Rattle.net_model.specs.Wires.{NetData, no_net, with_wire, with_out, no_wire, wire_at}
+use Rattle.net_model.specs.declared.signatures.Sort.{Sort}
+use Rattle.net_model.specs.BlockForms.{form_of, signature_in, repeats_first}
+use Rattle.net_model.specs.Validity.{is_of_sort, takes_form, wires_earlier, wires_agree, is_built_item, item_reads_earlier, item_agrees, item_in_range, is_good_wire, is_good_kind, are_good_from, are_distinct, is_among, are_distinct_outs, has_ends, is_valid, IsValid}
 use Rattle.text_words.specs.Steps.{◌>>=◌}
 use Rattle.text_words.proofs.ReaderSteps.{kept_by_text}
 use Rattle.net_text.specs.Forms.{out_line, defining_line}
 use Rattle.net_text.specs.Text.{after_out, after_definition, after_line, net_reader, network_of}
+use Rattle.net_text.proofs.NamePlaces.{list_any-map}
 use Rattle.net_text.proofs.GoodLines.{IsGood, IsGoodOut, is_wire-named, definition_good, output_line_good, true_if_both, first_of_both, second_of_both}
 
 -- ---- one more wire leaves the wires before it good
 
--- an earlier argument is the same wire
-argument_agrees-append : (wires more : List Wire) (i first a : ℕ) (ty : Option Ty) → is_earlier i ty a ≡ true → i ≤ length wires → argument_agrees (wires ++ more) first ty a ≡ argument_agrees wires first ty a
-argument_agrees-append wires more i first a (Some ty) below h =
-    let lt : a < length wires = grind (arith, nat_tests) in
-    ap (λ w. is_number_of ty w.kind) (get_or-append wires more no_wire a lt)
-argument_agrees-append wires more i first a None below h = refl
+-- a network that goes on from another one: it has its wires, and more behind them
+record GoesOn (net all : NetData) : Type 0 where
+  more : List Wire
+  wires : all.wires ≡ net.wires ++ more
 
--- so all that a block is given stays
-arguments_agree-append : (wires more : List Wire) (i : ℕ) (b : Block) → reads_earlier i b ≡ true → i ≤ length wires → arguments_agree (wires ++ more) b ≡ arguments_agree wires b
-arguments_agree-append wires more i b below h =
-    let parts = and_parts _ _ below in
-    let front = and_parts _ _ parts.0 in
-    let first = argument_of b 0 in
-    ap₂ (λ p q. p && q) (ap₂ (λ p q. p && q) (argument_agrees-append wires more i first first (type_read b 0) front.0 h) (argument_agrees-append wires more i first (argument_of b 1) (type_read b 1) front.1 h)) (argument_agrees-append wires more i first (argument_of b 2) (type_read b 2) parts.1 h)
+-- an earlier wire is the same
+same_wire_at : (net all : NetData) (on : GoesOn net all) (i a : ℕ) → nat_lt a i ≡ true → i ≤ length net.wires → wire_at all.wires a ≡ wire_at net.wires a
+same_wire_at net all on i a below h =
+    let lt : a < length net.wires = grind (arith, nat_tests) in
+    ap (λ l. wire_at l a) on.wires ∙ get_or-append net.wires on.more no_wire a lt
+
+-- so its sort stays, and that of each wire that a form reads
+wires_agree-append : (net all : NetData) (on : GoesOn net all) (i : ℕ) (sorts : List Sort) (wires : List WireNo) → wires_earlier i wires ≡ true → i ≤ length net.wires → wires_agree all.wires sorts wires ≡ wires_agree net.wires sorts wires
+wires_agree-append net all on i [] [] below h = refl
+wires_agree-append net all on i [] (w ∷ wires) below h = refl
+wires_agree-append net all on i (s ∷ sorts) [] below h = refl
+wires_agree-append net all on i (s ∷ sorts) (w ∷ wires) below h =
+    let parts = and_parts (nat_lt w.0 i) (wires_earlier i wires) below in
+    ap₂ (λ p q. p && q) (ap (λ v. is_of_sort s v.kind) (same_wire_at net all on i w.0 parts.0 h)) (wires_agree-append net all on i sorts wires parts.1 h)
 
 -- and its types agree as before
-item_agrees-append : (wires more : List Wire) (i : ℕ) (kind : Kind) (item : Item) → item_reads_earlier i item ≡ true → i ≤ length wires → item_agrees (wires ++ more) kind item ≡ item_agrees wires kind item
-item_agrees-append wires more i kind (Input lo hi) below h = refl
-item_agrees-append wires more i kind (Const value) below h = refl
-item_agrees-append wires more i kind (OfBlock b) below h =
-    ap (λ t. takes_block b && t && is_number_of (output_type b) kind) (arguments_agree-append wires more i b below h)
+item_agrees-append : (net all : NetData) (on : GoesOn net all) (i : ℕ) (kind : Kind) (item : Item) → item_reads_earlier i item ≡ true → i ≤ length net.wires → item_agrees all kind item ≡ item_agrees net kind item
+item_agrees-append net all on i kind (Input lo hi) below h = refl
+item_agrees-append net all on i kind (Const value) below h = refl
+item_agrees-append net all on i kind (OfBlock b) below h =
+    let form = form_of b in
+    ap (λ t. (takes_form form && t && is_of_sort (signature_in form).gives kind) && repeats_first b) (wires_agree-append net all on i (signature_in form).sorts form.wires below h)
 
 -- a test that is the same where the third holds
 by_earlier : (n b e s t k r : Bool) → (e ≡ true → s ≡ t) → (n && b && e && s && k && r) ≡ (n && b && e && t && k && r)
@@ -57,15 +64,15 @@ by_earlier true true false s t k r h = refl
 by_earlier true true true s t k r h = ap (λ x. x && k && r) (h refl)
 
 -- a wire stays good
-is_good_wire-append : (wires more : List Wire) (i : ℕ) (w : Wire) → i ≤ length wires → is_good_wire (wires ++ more) i w ≡ is_good_wire wires i w
-is_good_wire-append wires more i w h =
-    by_earlier (is_name w.name) (is_built_item w.item) (item_reads_earlier i w.item) (item_agrees (wires ++ more) w.kind w.item) (item_agrees wires w.kind w.item) (is_good_kind w.kind) (item_in_range w.kind w.item) (λ below. item_agrees-append wires more i w.kind w.item below h)
+is_good_wire-append : (net all : NetData) (on : GoesOn net all) (i : ℕ) (w : Wire) → i ≤ length net.wires → is_good_wire all i w ≡ is_good_wire net i w
+is_good_wire-append net all on i w h =
+    by_earlier (is_name w.name) (is_built_item w.item) (item_reads_earlier i w.item) (item_agrees all w.kind w.item) (item_agrees net w.kind w.item) (is_good_kind w.kind) (item_in_range w.kind w.item) (λ below. item_agrees-append net all on i w.kind w.item below h)
 
 -- all wires stay good
-are_good_from-append : (wires more : List Wire) (i : ℕ) (ws : List Wire) → i + length ws ≤ length wires → are_good_from (wires ++ more) i ws ≡ are_good_from wires i ws
-are_good_from-append wires more i [] h = refl
-are_good_from-append wires more i (w ∷ ws) h =
-    ap₂ (λ p q. p && q) (is_good_wire-append wires more i w (omega arith)) (are_good_from-append wires more (i + 1) ws (omega arith))
+are_good_from-append : (net all : NetData) (on : GoesOn net all) (i : ℕ) (ws : List Wire) → i + length ws ≤ length net.wires → are_good_from all i ws ≡ are_good_from net i ws
+are_good_from-append net all on i [] h = refl
+are_good_from-append net all on i (w ∷ ws) h =
+    ap₂ (λ p q. p && q) (is_good_wire-append net all on i w (omega arith)) (are_good_from-append net all on (i + 1) ws (omega arith))
 
 -- how tests are regrouped
 and_assoc : (a b c : Bool) → (a && (b && c)) ≡ ((a && b) && c)
@@ -77,7 +84,7 @@ and_true true = refl
 and_true false = refl
 
 -- one more wire at the end
-are_good_from-last : (all : List Wire) (i : ℕ) (ws : List Wire) (w : Wire) → are_good_from all i (ws ++ w ∷ []) ≡ (are_good_from all i ws && is_good_wire all (i + length ws) w)
+are_good_from-last : (all : NetData) (i : ℕ) (ws : List Wire) (w : Wire) → are_good_from all i (ws ++ w ∷ []) ≡ (are_good_from all i ws && is_good_wire all (i + length ws) w)
 are_good_from-last all i [] w =
     and_true (is_good_wire all i w) ∙ ap (λ k. is_good_wire all k w) (sym (add-zero i))
 are_good_from-last all i (v ∷ ws) w =
@@ -120,16 +127,6 @@ are_distinct_outs-last (m ∷ outs) o d new =
     let apart = or_false (o.0 == m.0) (is_among outs o) new in
     true_if_both _ _ (none_more (λ k. m.0 == k.0) outs o (first_of_both (not (is_among outs m)) (are_distinct_outs outs) d) (other_way m.0 o.0 apart.0)) (are_distinct_outs-last outs o (second_of_both (not (is_among outs m)) (are_distinct_outs outs) d) apart.1)
 
--- a test of what is mapped
-list_any-map : {X Y : Type 0} (f : X → Y) (p : Y → Bool) (xs : List X) → list_any p (map f xs) ≡ list_any (λ x. p (f x)) xs
-list_any-map f p [] = refl
-list_any-map f p (x ∷ xs) = ap (λ t. p (f x) || t) (list_any-map f p xs)
-
--- one more element is mapped
-map-last : {X Y : Type 0} (f : X → Y) (xs : List X) (x : X) → map f (xs ++ x ∷ []) ≡ map f xs ++ f x ∷ []
-map-last f [] x = refl
-map-last f (y ∷ xs) x = ap (λ t. f y ∷ t) (map-last f xs x)
-
 -- a number below a bound is below a greater one
 lt_more : (a n m : ℕ) → nat_lt a n ≡ true → n ≤ m → nat_lt a m ≡ true
 lt_more a n m h le = grind (arith, nat_tests)
@@ -150,49 +147,44 @@ outs_within n m (o ∷ outs) le h =
 record IsSound (net : NetData) : Type 0 where
   few : nat_le (length net.wires) 512 ≡ true
   distinct : are_distinct (map (λ w. w.name) net.wires) ≡ true
-  good : are_good_from net.wires 0 net.wires ≡ true
+  good : are_good_from net 0 net.wires ≡ true
   within : list_all (λ o. nat_lt o.0 (length net.wires)) net.outs ≡ true
   once : are_distinct_outs net.outs ≡ true
 
--- no wires and no outputs
-abbrev start : NetData
-start = record { wires = []; outs = [] }
-
 -- nothing is sound
-start_sound : IsSound start
+start_sound : IsSound no_net
 start_sound = record { few = refl; distinct = refl; good = refl; within = refl; once = refl }
 
--- one more wire, and one more output
+-- one more wire
 abbrev more_wires : NetData → List ℕ → Content → NetData
-more_wires net name content = record { wires = net.wires ++ record { name = name; kind = content.kind; item = content.item } ∷ []; outs = net.outs }
-
-abbrev more_outs : NetData → WireNo → NetData
-more_outs net out = record { wires = net.wires; outs = net.outs ++ out ∷ [] }
+more_wires net name content = with_wire net (record { name = name; kind = content.kind; item = content.item })
 
 -- it stays sound with one more good wire
-more_wires_sound : (net : NetData) (name : List ℕ) (content : Content) → IsSound net → IsGood net.wires name content → IsSound (more_wires net name content)
-more_wires_sound net name content s g =
+with_wire_sound : (net : NetData) (name : List ℕ) (content : Content) → IsSound net → IsGood net name content → IsSound (more_wires net name content)
+with_wire_sound net name content s g =
     let wires = net.wires in
     let w : Wire = record { name = name; kind = content.kind; item = content.item } in
-    let longer : length (wires ++ w ∷ []) ≡ length wires + 1 = length-append wires (w ∷ []) in
+    let on : GoesOn net (with_wire net w) = record { more = w ∷ []; wires = refl } in
+    let one_more : length (wires ++ w ∷ []) ≡ length wires + 1 = length-append wires (w ∷ []) in
     let new : list_any (λ m. bytes_eq m name) (map (λ w. w.name) wires) ≡ false = list_any-map (λ w. w.name) (λ m. bytes_eq m name) wires ∙ sym (is_wire-named wires name) ∙ g.fresh in
-    let here : is_good_wire wires (length wires) w ≡ true = true_if_both _ _ (true_if_both _ _ (true_if_both _ _ (true_if_both _ _ (true_if_both _ _ g.named g.item.built) g.item.earlier) g.item.agreed) g.kind) g.item.in_range in
-    let last : is_good_wire (wires ++ w ∷ []) (0 + length wires) w ≡ true = is_good_wire-append wires (w ∷ []) (0 + length wires) w (omega arith) ∙ ap (λ k. is_good_wire wires k w) (zero-add (length wires)) ∙ here in
+    let here : is_good_wire net (length wires) w ≡ true = true_if_both _ _ (true_if_both _ _ (true_if_both _ _ (true_if_both _ _ (true_if_both _ _ g.named g.item.built) g.item.earlier) g.item.agreed) g.kind) g.item.in_range in
+    let last : is_good_wire (with_wire net w) (0 + length wires) w ≡ true = is_good_wire-append net (with_wire net w) on (0 + length wires) w (omega arith) ∙ ap (λ k. is_good_wire net k w) (zero-add (length wires)) ∙ here in
     record {
-      few = few_more (length wires) (length (wires ++ w ∷ [])) g.room longer;
-      distinct = ap are_distinct (map-last (λ w. w.name) wires w) ∙ are_distinct-last (map (λ w. w.name) wires) name s.distinct new;
-      good = are_good_from-last (wires ++ w ∷ []) 0 wires w ∙ true_if_both _ _ (are_good_from-append wires (w ∷ []) 0 wires (omega arith) ∙ s.good) last;
-      within = outs_within (length wires) (length (wires ++ w ∷ [])) net.outs (omega (arith, longer)) s.within;
+      few = few_more (length wires) (length (wires ++ w ∷ [])) g.room one_more;
+      distinct = ap are_distinct (map-append (λ w. w.name) wires (w ∷ [])) ∙ are_distinct-last (map (λ w. w.name) wires) name s.distinct new;
+      good = are_good_from-last (with_wire net w) 0 wires w ∙ true_if_both _ _ (are_good_from-append net (with_wire net w) on 0 wires (omega arith) ∙ s.good) last;
+      within = outs_within (length wires) (length (wires ++ w ∷ [])) net.outs (omega (arith, one_more)) s.within;
       once = s.once;
     }
 
 -- it stays sound with one more good output
-more_outs_sound : (net : NetData) (out : WireNo) → IsSound net → IsGoodOut net.wires net.outs out → IsSound (more_outs net out)
-more_outs_sound net out s g =
+with_out_sound : (net : NetData) (out : WireNo) → IsSound net → IsGoodOut net.wires net.outs out → IsSound (with_out net out)
+with_out_sound net out s g =
+    let on : GoesOn net (with_out net out) = record { more = []; wires = sym (append-nil net.wires) } in
     record {
       few = s.few;
       distinct = s.distinct;
-      good = s.good;
+      good = are_good_from-append net (with_out net out) on 0 net.wires (omega arith) ∙ s.good;
       within = list_all-append (λ o. nat_lt o.0 (length net.wires)) net.outs (out ∷ []) ∙ true_if_both _ _ s.within (true_if_both _ _ g.within refl);
       once = are_distinct_outs-last net.outs out s.once g.fresh;
     }
@@ -200,18 +192,18 @@ more_outs_sound net out s g =
 -- ---- the lines
 
 -- a line of a wire that has no fault
-definition_step : (net : NetData) (name : List ℕ) (made : Result Content NetKind) (next : NetData) → IsSound net → ((content : Content) → made ≡ Ok content → IsGood net.wires name content) → (made >>= λ content. Ok (more_wires net name content)) ≡ Ok next → IsSound next
+definition_step : (net : NetData) (name : List ℕ) (made : Result Content NetKind) (next : NetData) → IsSound net → ((content : Content) → made ≡ Ok content → IsGood net name content) → (made >>= λ content. Ok (more_wires net name content)) ≡ Ok next → IsSound next
 definition_step net name (Err fault) next s g h = cc
 definition_step net name (Ok content) next s g h =
     let same : more_wires net name content ≡ next = cc in
-    subst (λ n. IsSound n) same (more_wires_sound net name content s (g content refl))
+    subst (λ n. IsSound n) same (with_wire_sound net name content s (g content refl))
 
 -- a line of an output that has no fault
-out_step : (net : NetData) (made : Result WireNo NetKind) (next : NetData) → IsSound net → ((out : WireNo) → made ≡ Ok out → IsGoodOut net.wires net.outs out) → (made >>= λ out. Ok (more_outs net out)) ≡ Ok next → IsSound next
+out_step : (net : NetData) (made : Result WireNo NetKind) (next : NetData) → IsSound net → ((out : WireNo) → made ≡ Ok out → IsGoodOut net.wires net.outs out) → (made >>= λ out. Ok (with_out net out)) ≡ Ok next → IsSound next
 out_step net (Err fault) next s g h = cc
 out_step net (Ok out) next s g h =
-    let same : more_outs net out ≡ next = cc in
-    subst (λ n. IsSound n) same (more_outs_sound net out s (g out refl))
+    let same : with_out net out ≡ next = cc in
+    subst (λ n. IsSound n) same (with_out_sound net out s (g out refl))
 
 -- whichever form the line has
 line_step : (next : NetData) (is_out : Bool) (out definition : Result NetData NetKind) → (out ≡ Ok next → IsSound next) → (definition ≡ Ok next → IsSound next) → cond is_out out definition ≡ Ok next → IsSound next
@@ -222,7 +214,7 @@ line_step next false out definition f g h = g h
 after_line_sound : (lines : List (List ℕ)) (net : NetData) (words : List (List ℕ)) (next : NetData) → IsSound net → after_line lines net words ≡ Ok next → IsSound next
 unfolding after_line after_out after_definition
 after_line_sound lines net words next s h =
-    line_step next (bytes_eq (nth words 0) (codes "out")) (after_out lines net words) (after_definition lines net words) (out_step net (out_line lines net.wires net.outs words) next s (output_line_good lines net.wires net.outs words)) (definition_step net (nth words 1) (defining_line lines net.wires words) next s (definition_good lines net.wires words)) h
+    line_step next (bytes_eq (nth words 0) (codes "out")) (after_out lines net words) (after_definition lines net words) (out_step net (out_line lines net.wires net.outs words) next s (output_line_good lines net.wires net.outs words)) (definition_step net (nth words 1) (defining_line lines net words) next s (definition_good lines net words)) h
 
 -- ---- the whole
 

@@ -15,11 +15,13 @@ use Rattle.fx_routines.specs.declared.operation.ScaledOp.TheVariants.{Convert}
 use Rattle.net_model.specs.declared.wires.Kind.TheVariants.{Num}
 use Rattle.net_model.specs.declared.wires.Block.TheVariants.{Arith, Scaled}
 use Rattle.net_model.specs.declared.wires.Item.TheVariants.{Input, Const, Block as OfBlock}
+use Rattle.net_model.specs.Signatures.{signature_of}
+use Rattle.net_model.specs.BlockForms.{form_of, block_of}
 use Rattle.net_model.specs.Wires.{NetData, place_of}
 use Rattle.net_text.specs.TypeWords.{point_of_word, number_kind_of, kind_of, is_position}
 use Rattle.net_text.specs.RoutineWords.{routine_at}
-use Rattle.net_text.specs.Forms.{keyword_of, is_defined, is_known, arguments_of, shift_at, shift_of, fresh, input_of, const_of, agreed, in_line, const_line, wire_line, unbuilt_line, line_of, out_line, defining_line}
-use Rattle.net_text.specs.Printing.{block_name, text_of}
+use Rattle.net_text.specs.Forms.{keyword_of, is_defined, is_known, are_known, wire_named, wires_named, are_numbers, number_in, numbers_in, given_line, fresh, input_of, const_of, agreed, in_line, const_line, wire_line, unbuilt_line, line_of, out_line, defining_line}
+use Rattle.net_text.specs.Printing.{text_of}
 use Rattle.net_text.specs.Text.{after_out, after_definition, after_line, network_of}
 use Rattle.text_words.specs.Readers.{said_by, head_below, read_below, behind_line, behind_all}
 
@@ -48,18 +50,18 @@ not_built = (refl, refl, refl)
 
 -- a routine that there isn't, one that isn't built, and too few arguments
 routines : HasFaultBelow (codes "wire y s16 = Mfx_Add_s8s16_s16 x z\n") UnknownRoutine × HasFaultBelow (codes "wire y s16 = Mfx_Mod_s16s16_s16 x\n") NotBuilt × HasFaultBelow (codes "wire y s16 = Mfx_Add_s16s16_s16 z\n") BadCount
-unfolding network_of said_by head_below lines_of lines_from words_of read_below behind_line after_line after_definition keyword_of defining_line line_of in_line wire_line fresh place_of input_of kind_of number_kind_of point_of_word is_position routine_at named rows row_named read_parts read_part read_first read_second read_output read_word first_type after is_name number_of
+unfolding network_of said_by head_below lines_of lines_from words_of read_below behind_line after_line after_definition keyword_of defining_line line_of in_line wire_line given_line are_known wire_named wires_named are_numbers number_in numbers_in signature_of block_of fresh place_of input_of kind_of number_kind_of point_of_word is_position routine_at named rows row_named read_parts read_part read_first read_second read_output read_word first_type after is_name number_of
 routines = (refl, refl, refl)
 
 -- an argument that no line defines, one that this line defines, one that a line below defines, one of another type,
 -- and a type that no block gives
 arguments : HasFaultBelow (codes "wire y s16 = Mfx_Add_s16s16_s16 x z\n") UnknownName × HasFaultBelow (codes "wire y s16 = Mfx_Add_s16s16_s16 x y\n") LaterWire × HasFaultBelow (codes "wire y s16 = Mfx_Add_s16s16_s16 z x\naxis z\n") LaterWire × HasFaultBelow (codes "wire y s16 = Mfx_Add_s8s8_s16 x x\n") TypeDiffers × HasFaultBelow (codes "wire y dp:x = Mfx_ConvertP2_s16_s16 x\n") TypeDiffers
-unfolding network_of said_by head_below lines_of lines_from words_of read_below behind_line after_line after_definition keyword_of defining_line line_of in_line wire_line fresh place_of is_known is_defined arguments_of agreed input_of kind_of number_kind_of point_of_word is_position routine_at named rows row_of row_named read_parts read_part read_first read_second read_output read_word first_type after is_name number_of
+unfolding network_of said_by head_below lines_of lines_from words_of read_below behind_line after_line after_definition keyword_of defining_line line_of in_line wire_line given_line are_known wire_named wires_named are_numbers number_in numbers_in signature_of block_of fresh place_of is_known is_defined agreed input_of kind_of number_kind_of point_of_word is_position routine_at named rows row_of row_named read_parts read_part read_first read_second read_output read_word first_type after is_name number_of
 arguments = (refl, refl, refl, refl, refl)
 
 -- a count of places that is no number, and one above 15; an empty range; and no output, told at the last line
 numbers : HasFaultBelow (codes "wire y s16 = Mfx_MulShRight_s16s16u8_s16 x x x\n") BadNumber × HasFaultBelow (codes "wire y s16 = Mfx_MulShRight_s16s16u8_s16 x x 16\n") OutOfRange × HasFaultBelow (codes "in y s16 5 4\n") OutOfRange × HasFaultBelow (codes "\n") Missing
-unfolding network_of said_by head_below lines_of lines_from words_of read_below behind_line after_line after_definition keyword_of defining_line line_of in_line wire_line fresh place_of is_known is_defined arguments_of shift_of shift_at agreed input_of kind_of number_kind_of point_of_word is_position routine_at named rows row_of row_named read_parts read_part read_first read_second read_output read_word first_type after is_name number_of behind_all
+unfolding network_of said_by head_below lines_of lines_from words_of read_below behind_line after_line after_definition keyword_of defining_line line_of in_line wire_line given_line are_known wire_named wires_named are_numbers number_in numbers_in signature_of block_of fresh place_of is_known is_defined agreed input_of kind_of number_kind_of point_of_word is_position routine_at named rows row_of row_named read_parts read_part read_first read_second read_output read_word first_type after is_name number_of behind_all
 numbers = (refl, refl, refl, refl)
 
 -- a good one
@@ -75,10 +77,10 @@ summed = record {
 }
 
 good_text : network_of (codes "net 1 # a sum\n\nin x s16 0 4\nconst k s16.07 -3\nwire y s32 = Mfx_Add_s16s16_s32 x k\nwire z s16.12 = Mfx_ConvertP2_s32_s16 y\nout z\nout y\n") ≡ Ok summed
-unfolding network_of said_by head_below lines_of lines_from words_of read_below behind_line after_line after_out after_definition keyword_of defining_line line_of in_line const_line wire_line out_line fresh place_of is_known is_defined arguments_of shift_of shift_at agreed input_of const_of kind_of number_kind_of point_of_word is_position routine_at named rows row_of row_named read_parts read_part read_first read_second read_output read_word first_type after is_name number_of behind_all
+unfolding network_of said_by head_below lines_of lines_from words_of read_below behind_line after_line after_out after_definition keyword_of defining_line line_of in_line const_line wire_line given_line are_known wire_named wires_named are_numbers number_in numbers_in signature_of block_of out_line fresh place_of is_known is_defined agreed input_of const_of kind_of number_kind_of point_of_word is_position routine_at named rows row_of row_named read_parts read_part read_first read_second read_output read_word first_type after is_name number_of behind_all
 good_text = refl
 
 -- and its canonical text
 printed_text : text_of summed ≡ codes "net 1\nin x s16 0 4\nconst k s16.7 -3\nwire y s32 = Mfx_Add_s16s16_s32 x k\nwire z s16.12 = Mfx_ConvertP2_s32_s16 y\nout z\nout y\n"
-unfolding text_of block_name row_of rows digits
+unfolding text_of form_of signature_of row_of rows digits
 printed_text = refl

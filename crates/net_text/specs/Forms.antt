@@ -1,6 +1,6 @@
 -- The lines of a network's text, one definition for each form. The order of its lines is the order in which a
--- line is tested; the first test that fails says what is wrong. `AreBelow` is for a private function's clause.
-use Rattle.std.specs.Prelude.{ℕ, ◌+◌, ◌<◌, Bool, true, false, not, ◌&&◌, ◌||◌, ◌==◌, nat_le, nat_lt, int_le, List, length, ℤ, pos, unsigned_abs, slice_get, codes, bytes_eq, Option, Some, None, ok_or, is_some, Result, Ok, Err, if◌then◌else◌}
+-- line is tested; the first test that fails says what is wrong.
+use Rattle.std.specs.Prelude.{ℕ, ◌+◌, Bool, true, false, not, ◌&&◌, ◌||◌, ◌==◌, nat_le, nat_lt, List, [], ◌∷◌, ◌++◌, length, ℤ, codes, bytes_eq, Option, Some, None, ok_or, is_some, Result, Ok, Err, if◌then◌else◌}
 use Rattle.std.specs.List.{list_any}
 use Rattle.text_words.specs.Lines.{nth, words_of}
 use Rattle.text_words.specs.Names.{is_name}
@@ -8,26 +8,29 @@ use Rattle.text_words.specs.Numbers.{number_of}
 use Rattle.text_words.specs.Steps.{◌>>=◌, demand}
 use Rattle.fx_core.specs.declared.word_type.Ty.{Ty}
 use Rattle.fx_core.specs.declared.word_type.Ty.TheVariants.{U8, S8, U16, S16}
-use Rattle.fx_routines.specs.declared.operation.ArithOp.{ArithOp}
+use Rattle.fx_routines.specs.declared.operation.Types.{Types}
+use Rattle.fx_routines.specs.declared.table.Routine.{Routine}
 use Rattle.net_model.specs.declared.network.NetKind.{NetKind}
 use Rattle.net_model.specs.declared.network.NetKind.TheVariants.{BadLine, BadName, Repeated, BadType, NotBuilt, BadCount, UnknownName, LaterWire, TypeDiffers, BadNumber, OutOfRange, TooMany}
 use Rattle.net_model.specs.declared.wires.WireNo.{WireNo}
 use Rattle.net_model.specs.declared.wires.Kind.{Kind}
-use Rattle.net_model.specs.declared.wires.Block.{Block}
 use Rattle.net_model.specs.declared.wires.Item.{Item}
 use Rattle.net_model.specs.declared.wires.Item.TheVariants.{Input, Const, Block as OfBlock}
 use Rattle.net_model.specs.declared.wires.Wire.{Wire}
-use Rattle.net_text.specs.declared.routine_word.Routine.{Routine}
-use Rattle.net_text.specs.declared.routine_word.Routine.TheVariants.{ArithOf, ScaledOf}
-use Rattle.net_text.specs.declared.routine_word.Arguments.{Arguments}
+use Rattle.net_model.specs.declared.signatures.Sort.{Sort}
+use Rattle.net_model.specs.declared.signatures.Range.{Range}
+use Rattle.net_model.specs.declared.signatures.Signature.{Signature}
+use Rattle.net_model.specs.declared.block_forms.Form.{Form}
 use Rattle.net_text.specs.declared.keyword.Keyword.{Keyword}
 use Rattle.net_text.specs.declared.keyword.Keyword.TheVariants.{InLine, ConstLine, AxisLine, AxisStepLine, AxisShiftLine, TableLine, MapLine, WireLine, DelayLine}
 use Rattle.net_text.specs.declared.line_forms.Content.{Content}
-use Rattle.net_model.specs.Wires.{place_of}
-use Rattle.net_model.specs.Built.{has_shift, is_shift}
-use Rattle.net_model.specs.Validity.{item_in_range, agrees, is_among, most_wires}
+use Rattle.net_text.specs.declared.line_forms.Given.{Given}
+use Rattle.net_model.specs.Wires.{NetData, place_of}
+use Rattle.net_model.specs.Signatures.{signature_of}
+use Rattle.net_model.specs.BlockForms.{in_range as is_in_range, block_of}
+use Rattle.net_model.specs.Validity.{item_in_range, form_agrees, is_among, most_wires}
 use Rattle.net_text.specs.TypeWords.{kind_of, ty_of, axis_name, is_position}
-use Rattle.net_text.specs.RoutineWords.{routine_at, types_of, arity_of, is_shifting, block_of}
+use Rattle.net_text.specs.RoutineWords.{routine_at}
 
 -- ---- names
 
@@ -122,11 +125,12 @@ is_narrow (Some U16) = true
 is_narrow (Some S16) = true
 is_narrow other = false
 
--- the kind of a wire that a block gives, where they agree with its arguments; a position is given by no block that is built
-unfoldable pub agreed : List Wire → Block → List ℕ → Result Kind NetKind
-agreed wires block word = do
+-- the kind of a wire that a form gives, where they agree with the wires that it reads; a position is given by no form
+-- that is built
+unfoldable pub agreed : NetData → Form → List ℕ → Result Kind NetKind
+agreed net form word = do
   kind ← ok_or (kind_of word) TypeDiffers
-  _ ← demand (agrees wires kind block) TypeDiffers
+  _ ← demand (form_agrees net kind form) TypeDiffers
   Ok kind
 
 -- ---- the forms
@@ -151,77 +155,69 @@ const_line wires words = do
   _ ← has_room wires
   Ok (record { kind = kind; item = item })
 
--- the type of argument number p of a routine, from 0; none where the routine doesn't have it
-abbrev pub type_at : Routine → ℕ → Option Ty
-type_at routine p = slice_get (types_of routine) p
+-- the words from number k on, one for each sort, are names that are known
+unfoldable pub are_known : List (List ℕ) → List Wire → List Sort → ℕ → List (List ℕ) → Bool
+are_known lines wires [] k words = true
+are_known lines wires (sort ∷ sorts) k words = is_known lines wires (nth words k) && are_known lines wires sorts (k + 1) words
 
--- the word of an argument of this place and type, behind `wire NAME TYPE = ROUTINE`; one that the routine doesn't have repeats the first
-abbrev pub argument_word : List (List ℕ) → ℕ → Option Ty → List ℕ
-argument_word words p (Some ty) = nth words (5 + p)
-argument_word words p None = nth words 5
+-- the wire that a word names
+unfoldable pub wire_named : List Wire → List ℕ → Result WireNo NetKind
+wire_named wires name = do
+  place ← wire_above wires name
+  Ok (record { 0 = place })
 
--- the word of argument number p of a routine, from 0
-abbrev pub argument_at : Routine → List (List ℕ) → ℕ → List ℕ
-argument_at routine words p = argument_word words p (type_at routine p)
+-- the wires that the words from number k on name, one for each sort, behind those that were read
+unfoldable pub wires_named : List Wire → List WireNo → List Sort → ℕ → List (List ℕ) → Result (List WireNo) NetKind
+wires_named wires so_far [] k words = Ok so_far
+wires_named wires so_far (sort ∷ sorts) k words = do
+  w ← wire_named wires (nth words k)
+  wires_named wires (so_far ++ w ∷ []) sorts (k + 1) words
 
--- the wires that a routine is given
-unfoldable pub arguments_of : List Wire → Routine → List (List ℕ) → Result Arguments NetKind
-arguments_of wires routine words = do
-  x ← wire_above wires (argument_at routine words 0)
-  y ← wire_above wires (argument_at routine words 1)
-  z ← wire_above wires (argument_at routine words 2)
-  Ok (record { x = record { 0 = x }; y = record { 0 = y }; z = record { 0 = z } })
+-- the words from number k on, one for each range, are numbers
+unfoldable pub are_numbers : List Range → ℕ → List (List ℕ) → Bool
+are_numbers [] k words = true
+are_numbers (range ∷ ranges) k words = is_some (number_of (nth words k)) && are_numbers ranges (k + 1) words
 
--- each of them is one of so many wires
-abbrev pub AreBelow : ℕ → Arguments → Type 0
-AreBelow count arguments = (arguments.x.0 < count) × (arguments.y.0 < count) × (arguments.z.0 < count)
+-- the number of a range that a word writes
+unfoldable pub number_in : Range → List ℕ → Result ℤ NetKind
+number_in range word = do
+  number ← number_at word
+  _ ← demand (is_in_range range number) OutOfRange
+  Ok number
 
--- the shift of an operation that a word writes
-unfoldable pub shift_at : ArithOp → List ℕ → Result ℕ NetKind
-shift_at op word = do
-  sh ← number_at word
-  _ ← demand (int_le (pos 0) sh && is_shift op (unsigned_abs sh)) OutOfRange
-  Ok (unsigned_abs sh)
-
--- the shift, which stands behind the wires of a routine that has one; 0 where it hasn't
-unfoldable pub shift_of : Routine → List (List ℕ) → Result ℕ NetKind
-shift_of (ArithOf op v) words = if has_shift op then shift_at op (nth words (5 + arity_of (ArithOf op v))) else Ok 0
-shift_of (ScaledOf op v) words = Ok 0
-
--- how many words a line of a routine has: a shift is one more than the wires
-abbrev pub words_wanted : Routine → ℕ
-words_wanted routine = 5 + arity_of routine + (if is_shifting routine then 1 else 0)
+-- the numbers that the words from number k on write, one for each range, behind those that were read
+unfoldable pub numbers_in : List ℤ → List Range → ℕ → List (List ℕ) → Result (List ℤ) NetKind
+numbers_in so_far [] k words = Ok so_far
+numbers_in so_far (range ∷ ranges) k words = do
+  number ← number_in range (nth words k)
+  numbers_in (so_far ++ number ∷ []) ranges (k + 1) words
 
 -- the axis that a type word names, if it names one, passes the test
 abbrev pub axis_passes : (List ℕ → Bool) → List ℕ → Bool
 axis_passes test word = not (is_position word) || test (axis_name word)
 
--- the names that a wire line uses are defined
-abbrev pub are_known : List (List ℕ) → List Wire → Routine → List (List ℕ) → Bool
-are_known lines wires routine words =
-    axis_passes (is_known lines wires) (nth words 2)
-    && is_known lines wires (argument_at routine words 0) && is_known lines wires (argument_at routine words 1) && is_known lines wires (argument_at routine words 2)
-
--- what a wire line gives once its form and its names are tested
-abbrev pub routine_content : List Wire → Routine → List (List ℕ) → Result Content NetKind
-routine_content wires routine words = do
-  arguments ← arguments_of wires routine words
-  kind ← agreed wires (block_of routine arguments 0) (nth words 2)
-  sh ← shift_of routine words
-  _ ← has_room wires
-  Ok (record { kind = kind; item = OfBlock (block_of routine arguments sh) })
+-- what a line gives of a routine of this signature: first wires, then numbers stand behind `wire NAME TYPE = ROUTINE`
+unfoldable pub given_line : List (List ℕ) → NetData → Routine → Types → Signature → List (List ℕ) → Result Given NetKind
+given_line lines net routine types signature words = do
+  _ ← demand (length words == 5 + length signature.sorts + length signature.ranges) BadCount
+  _ ← demand (axis_passes (is_known lines net.wires) (nth words 2) && are_known lines net.wires signature.sorts 5 words) UnknownName
+  _ ← demand (axis_passes (is_wire net.wires) (nth words 2)) LaterWire
+  wires ← wires_named net.wires [] signature.sorts 5 words
+  kind ← agreed net (record { routine = routine; types = types; wires = wires; numbers = [] }) (nth words 2)
+  _ ← demand (are_numbers signature.ranges (5 + length signature.sorts) words) BadNumber
+  numbers ← numbers_in [] signature.ranges (5 + length signature.sorts) words
+  _ ← has_room net.wires
+  Ok (record { kind = kind; form = record { routine = routine; types = types; wires = wires; numbers = numbers } })
 
 -- `wire NAME TYPE = ROUTINE ARG ..`
-unfoldable pub wire_line : List (List ℕ) → List Wire → List (List ℕ) → Result Content NetKind
-wire_line lines wires words = do
+unfoldable pub wire_line : List (List ℕ) → NetData → List (List ℕ) → Result Content NetKind
+wire_line lines net words = do
   _ ← demand (nat_le 6 (length words) && bytes_eq (nth words 3) (codes "=")) BadLine
-  _ ← fresh wires (nth words 1)
+  _ ← fresh net.wires (nth words 1)
   _ ← demand (is_type (nth words 2)) BadType
-  routine ← routine_at (nth words 4)
-  _ ← demand (length words == words_wanted routine) BadCount
-  _ ← demand (are_known lines wires routine words) UnknownName
-  _ ← demand (axis_passes (is_wire wires) (nth words 2)) LaterWire
-  routine_content wires routine words
+  found ← routine_at (nth words 4)
+  given ← given_line lines net found.0 found.1 (signature_of found.0 found.1) words
+  Ok (record { kind = given.kind; item = OfBlock (block_of given.form) })
 
 -- a line that isn't built: its count of words, its name and its type are tested first
 unfoldable pub unbuilt_line : Bool → Bool → List Wire → List (List ℕ) → Result Content NetKind
@@ -263,19 +259,19 @@ out_line lines wires outs words = do
   Ok (record { 0 = place })
 
 -- the line of a keyword
-unfoldable pub line_of : Keyword → List (List ℕ) → List Wire → List (List ℕ) → Result Content NetKind
-line_of InLine lines wires words = in_line wires words
-line_of ConstLine lines wires words = const_line wires words
-line_of AxisLine lines wires words = list_line wires words
-line_of AxisStepLine lines wires words = spaced_line wires words
-line_of AxisShiftLine lines wires words = spaced_line wires words
-line_of TableLine lines wires words = list_line wires words
-line_of MapLine lines wires words = map_line wires words
-line_of WireLine lines wires words = wire_line lines wires words
-line_of DelayLine lines wires words = delay_line wires words
+unfoldable pub line_of : Keyword → List (List ℕ) → NetData → List (List ℕ) → Result Content NetKind
+line_of InLine lines net words = in_line net.wires words
+line_of ConstLine lines net words = const_line net.wires words
+line_of AxisLine lines net words = list_line net.wires words
+line_of AxisStepLine lines net words = spaced_line net.wires words
+line_of AxisShiftLine lines net words = spaced_line net.wires words
+line_of TableLine lines net words = list_line net.wires words
+line_of MapLine lines net words = map_line net.wires words
+line_of WireLine lines net words = wire_line lines net words
+line_of DelayLine lines net words = delay_line net.wires words
 
 -- what a line gives that defines a name
-unfoldable pub defining_line : List (List ℕ) → List Wire → List (List ℕ) → Result Content NetKind
-defining_line lines wires words = do
+unfoldable pub defining_line : List (List ℕ) → NetData → List (List ℕ) → Result Content NetKind
+defining_line lines net words = do
   keyword ← ok_or (keyword_of (nth words 0)) BadLine
-  line_of keyword lines wires words
+  line_of keyword lines net words

@@ -1,5 +1,6 @@
 pub mod TypeWords
 pub mod RoutineWords
 pub mod Forms
+pub mod Names
 pub mod Text
 pub mod Printing

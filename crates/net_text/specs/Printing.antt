@@ -1,21 +1,19 @@
 -- The canonical text of a network: a line for each wire and each output, with one space between words. `lines_below` is
 -- for private functions' clauses alone.
-use Rattle.std.specs.Prelude.{◌≡◌, ℕ, zero, suc, pos, List, [], ◌∷◌, ◌++◌, map, length, take, codes, Ok, if◌then◌else◌}
+use Rattle.std.specs.Prelude.{◌≡◌, ℕ, zero, suc, pos, List, [], ◌∷◌, ◌++◌, map, codes, Ok, ℤ}
 use Rattle.std.specs.Fmt.{signed_decimal}
 use Rattle.text_words.specs.Printed.{spaced, word_lines}
-use Rattle.fx_routines.specs.declared.table.Routine.TheVariants.{Arith as NamedArith, Scaled as NamedScaled}
 use Rattle.fx_routines.specs.Names.{type_word, routine_name}
 use Rattle.net_model.specs.declared.wires.WireNo.{WireNo}
 use Rattle.net_model.specs.declared.wires.Kind.{Kind}
 use Rattle.net_model.specs.declared.wires.Kind.TheVariants.{Num, Truth}
-use Rattle.net_model.specs.declared.wires.Block.{Block}
-use Rattle.net_model.specs.declared.wires.Block.TheVariants.{Arith, Scaled}
 use Rattle.net_model.specs.declared.wires.Item.{Item}
 use Rattle.net_model.specs.declared.wires.Item.TheVariants.{Input, Const, Block as OfBlock}
 use Rattle.net_model.specs.declared.wires.Wire.{Wire}
-use Rattle.net_model.specs.Built.{has_shift}
-use Rattle.net_model.specs.Wires.{NetData, wire_at, argument_of}
-use Rattle.net_model.specs.Validity.{types_read, IsValid}
+use Rattle.net_model.specs.declared.block_forms.Form.{Form}
+use Rattle.net_model.specs.BlockForms.{form_of}
+use Rattle.net_model.specs.Wires.{NetData, wire_at}
+use Rattle.net_model.specs.Validity.{IsValid}
 use Rattle.net_text.specs.Text.{network_of}
 
 -- a binary point behind a type: the point 0 isn't written
@@ -28,19 +26,21 @@ abbrev pub kind_word : Kind → List ℕ
 kind_word (Num ty point) = type_word ty ++ point_word point
 kind_word Truth = codes "bool"
 
--- the name of a block's routine
-unfoldable pub block_name : Block → List ℕ
-block_name (Arith op v x y z sh) = routine_name (NamedArith op) v
-block_name (Scaled op v x y) = routine_name (NamedScaled op) v
+-- the names of the wires that a form reads
+abbrev pub argument_words : List Wire → List WireNo → List (List ℕ)
+argument_words all wires = map (λ w. (wire_at all w.0).name) wires
 
--- the count of places behind a block's wires, where its routine has one
-abbrev pub shift_words : Block → List (List ℕ)
-shift_words (Arith op v x y z sh) = if has_shift op then signed_decimal (pos sh) ∷ [] else []
-shift_words (Scaled op v x y) = []
+-- the numbers that a form is given
+abbrev pub number_words : List ℤ → List (List ℕ)
+number_words numbers = map signed_decimal numbers
 
--- the names of the wires that a block reads: those that its routine has
-abbrev pub argument_words : List Wire → Block → List (List ℕ)
-argument_words wires b = take (length (types_read b)) (map (λ p. (wire_at wires (argument_of b p)).name) (0 ∷ 1 ∷ 2 ∷ []))
+-- what stands behind the name of a form's routine
+abbrev pub given_words : List Wire → Form → List (List ℕ)
+given_words all form = argument_words all form.wires ++ number_words form.numbers
+
+-- a form, from its routine's name on
+abbrev pub form_words : List Wire → Form → List (List ℕ)
+form_words all form = routine_name form.routine form.types ∷ given_words all form
 
 -- the words of a wire's line
 abbrev pub wire_words : List Wire → Wire → List (List ℕ)
@@ -48,7 +48,7 @@ wire_words wires w = item_words wires w.name (kind_word w.kind) w.item where
   item_words : List Wire → List ℕ → List ℕ → Item → List (List ℕ)
   item_words wires name kind (Input lo hi) = codes "in" ∷ name ∷ kind ∷ signed_decimal lo ∷ signed_decimal hi ∷ []
   item_words wires name kind (Const value) = codes "const" ∷ name ∷ kind ∷ signed_decimal value ∷ []
-  item_words wires name kind (OfBlock b) = codes "wire" ∷ name ∷ kind ∷ codes "=" ∷ block_name b ∷ (argument_words wires b ++ shift_words b)
+  item_words wires name kind (OfBlock b) = codes "wire" ∷ name ∷ kind ∷ codes "=" ∷ form_words wires (form_of b)
 
 -- the words of an output's line
 abbrev pub out_words : List Wire → WireNo → List (List ℕ)

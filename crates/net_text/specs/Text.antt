@@ -1,6 +1,6 @@
 -- A network's text: the network that it says, or its first fault. How its lines are read is the crate of words'; so are
 -- words, names and numbers. `GivesDraft` is for private functions' clauses alone.
-use Rattle.std.specs.Prelude.{◌≡◌, List, [], ◌∷◌, ◌++◌, ℕ, codes, bytes_eq, Result, Ok, Err, if◌then◌else◌}
+use Rattle.std.specs.Prelude.{◌≡◌, List, ℕ, codes, bytes_eq, Result, Ok, Err, if◌then◌else◌}
 use Rattle.text_words.specs.Lines.{lines_of, nth}
 use Rattle.text_words.specs.Steps.{◌>>=◌}
 use Rattle.text_words.specs.Readers.{Reader, said_by}
@@ -10,7 +10,7 @@ use Rattle.net_model.specs.declared.network.Draft.{Draft}
 use Rattle.net_text.specs.declared.reader.NetFault.{NetFault}
 use Rattle.net_text.specs.declared.reader.NetError.{NetError}
 use Rattle.net_text.specs.declared.reader.NetError.TheVariants.{Fault, OutOfMemory}
-use Rattle.net_model.specs.Wires.{NetData}
+use Rattle.net_model.specs.Wires.{NetData, no_net, with_out, with_wire}
 use Rattle.net_model.specs.Drafts.{data_of}
 use Rattle.net_model.specs.Validity.{has_ends}
 use Rattle.net_text.specs.Forms.{out_line, defining_line}
@@ -21,13 +21,13 @@ use Rattle.net_text.specs.Forms.{out_line, defining_line}
 unfoldable pub after_out : List (List ℕ) → NetData → List (List ℕ) → Result NetData NetKind
 after_out lines net words = do
   o ← out_line lines net.wires net.outs words
-  Ok (record { wires = net.wires; outs = net.outs ++ o ∷ [] })
+  Ok (with_out net o)
 
 -- one more wire
 unfoldable pub after_definition : List (List ℕ) → NetData → List (List ℕ) → Result NetData NetKind
 after_definition lines net words = do
-  content ← defining_line lines net.wires words
-  Ok (record { wires = net.wires ++ record { name = nth words 1; kind = content.kind; item = content.item } ∷ []; outs = net.outs })
+  content ← defining_line lines net words
+  Ok (with_wire net (record { name = nth words 1; kind = content.kind; item = content.item }))
 
 -- the network so far, after a line of these words, of which there is one at least
 unfoldable pub after_line : List (List ℕ) → NetData → List (List ℕ) → Result NetData NetKind
@@ -40,7 +40,7 @@ abbrev pub net_reader : List (List ℕ) → Reader NetData NetKind NetFault
 net_reader lines = record {
   keyword = codes "net";
   no_head = NoHead;
-  start = record { wires = []; outs = [] };
+  start = no_net;
   step = after_line lines;
   is_complete = λ net. has_ends net.wires net.outs;
   incomplete = Missing;

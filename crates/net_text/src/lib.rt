@@ -2,9 +2,9 @@
 // a network, which reads as that network again.
 #![tactic(auto)]
 
-mod definitions;
 mod keyword;
 mod line_forms;
+mod names;
 mod printing;
 mod reader;
 mod routine_word;

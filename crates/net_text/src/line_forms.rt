@@ -1,25 +1,21 @@
 // The forms of lines: what each gives, or the first of its tests that fails.
-ghost use Rattle.std.specs.Prelude.{◌≡◌, ◌<◌, ◌≤◌, length, IfOk, IfSome, OnOk, bytes_eq, codes, int_le, nat_le, pos, unsigned_abs, false, true, ◌&&◌, ◌==◌};
-ghost use Rattle.text_words.specs.Lines.{lines_of, nth, words_of};
+ghost use Rattle.std.specs.Prelude.{◌≡◌, ◌<◌, ◌≤◌, [], length, IfOk, OnOk, bytes_eq, codes, is_some, nat_le, false, true, ◌&&◌, ◌==◌};
+ghost use Rattle.text_words.specs.Lines.{nth, words_of};
 ghost use Rattle.text_words.specs.Names.{is_name};
-ghost use Rattle.fx_routines.specs.declared.operation.ArithOp.{ArithOp};
-ghost use Rattle.net_model.specs.Wires.{place_of};
-ghost use Rattle.net_model.specs.Built.{has_shift, is_shift};
+ghost use Rattle.text_words.specs.Numbers.{number_of};
 ghost use Rattle.net_model.specs.Validity.{is_among};
 ghost use Rattle.net_text.specs.TypeWords.{ty_of};
-ghost use Rattle.net_text.specs.Forms.{AreBelow, agreed, are_known, argument_word, arguments_of, axis_passes, const_line, defining_line, delay_line, fresh, routine_content, in_line, is_known, is_narrow, is_output, is_type, is_wire, line_of, list_line, map_line, out_line, input_of, wire_above, shift_at, shift_of, spaced_line, unbuilt_line, const_of, wire_line, words_wanted};
+ghost use Rattle.net_text.specs.Forms.{agreed, are_known, are_numbers, axis_passes, const_line, const_of, defining_line, delay_line, fresh, given_line, in_line, input_of, is_known, is_narrow, is_output, is_type, is_wire, line_of, list_line, map_line, number_in, numbers_in, out_line, spaced_line, unbuilt_line, wire_above, wire_line, wire_named, wires_named};
 
-use crate::definitions::is_defined;
 use crate::keyword::{Keyword, keyword_of};
-use crate::routine_word::{
-    Arguments, Routine, arity_of, block_of, is_shifting, routine_at, types_of,
-};
+use crate::names::Above;
+use crate::routine_word::routine_at;
 use crate::type_word::{axis_name, is_position, kind_of, ty_of};
 use fx_core::Ty;
-use mfx_arith::ArithOp;
+use fx_routines::{Routine, Types};
 use net_model::{
-    Block, GREATEST_SHIFT, Item, Kind, MOST_WIRES, NetKind, Wire, WireNo, agrees, has_shift,
-    is_range, kind_holds,
+    Few, Form, Item, Kind, MOST_WIRES, NetKind, Range, Signature, Sort, WireNo, block_of,
+    form_agrees, in_range, is_range, kind_holds, signature_of,
 };
 use text_words::{count_words, demand, is_literal, is_name, number, word_at};
 
@@ -33,108 +29,132 @@ pub struct Content {
     pub item: Item,
 }
 
-/// The wire that a line defines, by the line's keyword. `text` is the whole text, and `wires` are those
-/// of the lines above.
+/// What a wire's line gives of a routine.
+#[derive(Drop)]
+pub struct Given {
+    pub kind: Kind,
+    pub form: Form,
+}
+
+/// The wire that a line defines, by the line's keyword.
 #[tactic(auto, unfolding(crate::specs::Forms::defining_line))]
-pub fn defining_line(text: &[u8], wires: &[Wire], line: &[u8]) -> Result<Content, NetKind>
-    requires { length wires.now ≤ 512 }
-    ensures value { result ≡ defining_line (lines_of text.now) wires.now (words_of line.now) }
-    ensures room { OnOk result (length wires.now < 512) }
+pub fn defining_line(above: &Above, line: &[u8]) -> Result<Content, NetKind>
+    requires { length above.now.net.wires ≤ 512 }
+    ensures value { result ≡ defining_line above.now.lines above.now.net (words_of line.now) }
+    ensures room { OnOk result (length above.now.net.wires < 512) }
     ensures name { OnOk result (is_name (nth (words_of line.now) 1) ≡ true) }
 {
     match keyword_of(word_at(line, 0)) {
-        Some(keyword) => line_of(keyword, text, wires, line),
+        Some(keyword) => line_of(keyword, above, line),
         None => Err(NetKind::BadLine),
     }
 }
 
 #[tactic(auto, unfolding(crate::specs::Forms::line_of))]
-fn line_of(keyword: Keyword, text: &[u8], wires: &[Wire], line: &[u8]) -> Result<Content, NetKind>
-    requires { length wires.now ≤ 512 }
-    ensures value { result ≡ line_of keyword (lines_of text.now) wires.now (words_of line.now) }
-    ensures room { OnOk result (length wires.now < 512) }
+fn line_of(keyword: Keyword, above: &Above, line: &[u8]) -> Result<Content, NetKind>
+    requires { length above.now.net.wires ≤ 512 }
+    ensures value { result ≡ line_of keyword above.now.lines above.now.net (words_of line.now) }
+    ensures room { OnOk result (length above.now.net.wires < 512) }
     ensures name { OnOk result (is_name (nth (words_of line.now) 1) ≡ true) }
 {
     match keyword {
-        Keyword::InLine => in_line(wires, line),
-        Keyword::ConstLine => const_line(wires, line),
-        Keyword::AxisLine => list_line(wires, line),
-        Keyword::AxisStepLine => spaced_line(wires, line),
-        Keyword::AxisShiftLine => spaced_line(wires, line),
-        Keyword::TableLine => list_line(wires, line),
-        Keyword::MapLine => map_line(wires, line),
-        Keyword::WireLine => wire_line(text, wires, line),
-        Keyword::DelayLine => delay_line(wires, line),
+        Keyword::InLine => in_line(above, line),
+        Keyword::ConstLine => const_line(above, line),
+        Keyword::AxisLine => list_line(above, line),
+        Keyword::AxisStepLine => spaced_line(above, line),
+        Keyword::AxisShiftLine => spaced_line(above, line),
+        Keyword::TableLine => list_line(above, line),
+        Keyword::MapLine => map_line(above, line),
+        Keyword::WireLine => wire_line(above, line),
+        Keyword::DelayLine => delay_line(above, line),
     }
 }
 
 // `in NAME TYPE LO HI`
 #[tactic(auto, unfolding(crate::specs::Forms::in_line))]
-fn in_line(wires: &[Wire], line: &[u8]) -> Result<Content, NetKind>
-    ensures value { result ≡ in_line wires.now (words_of line.now) }
-    ensures room { OnOk result (length wires.now < 512) }
+fn in_line(above: &Above, line: &[u8]) -> Result<Content, NetKind>
+    ensures value { result ≡ in_line above.now.net.wires (words_of line.now) }
+    ensures room { OnOk result (length above.now.net.wires < 512) }
     ensures name { OnOk result (is_name (nth (words_of line.now) 1) ≡ true) }
 {
     demand!(count_words(line) == 5, NetKind::BadLine);
-    fresh(wires, word_at(line, 1))?;
+    fresh(above, word_at(line, 1))?;
     let Some(kind) = kind_of(word_at(line, 2)) else {
         return Err(NetKind::BadType);
     };
     let item = input_of(kind, word_at(line, 3), word_at(line, 4))?;
-    demand!(wires.len() < MOST_WIRES, NetKind::TooMany);
+    demand!(above.draft().wires.len() < MOST_WIRES, NetKind::TooMany);
     Ok(Content { kind, item })
 }
 
 // `const NAME TYPE VALUE`
 #[tactic(auto, unfolding(crate::specs::Forms::const_line))]
-fn const_line(wires: &[Wire], line: &[u8]) -> Result<Content, NetKind>
-    ensures value { result ≡ const_line wires.now (words_of line.now) }
-    ensures room { OnOk result (length wires.now < 512) }
+fn const_line(above: &Above, line: &[u8]) -> Result<Content, NetKind>
+    ensures value { result ≡ const_line above.now.net.wires (words_of line.now) }
+    ensures room { OnOk result (length above.now.net.wires < 512) }
     ensures name { OnOk result (is_name (nth (words_of line.now) 1) ≡ true) }
 {
     demand!(count_words(line) == 4, NetKind::BadLine);
-    fresh(wires, word_at(line, 1))?;
+    fresh(above, word_at(line, 1))?;
     let Some(kind) = kind_of(word_at(line, 2)) else {
         return Err(NetKind::BadType);
     };
     let item = const_of(kind, word_at(line, 3))?;
-    demand!(wires.len() < MOST_WIRES, NetKind::TooMany);
+    demand!(above.draft().wires.len() < MOST_WIRES, NetKind::TooMany);
     Ok(Content { kind, item })
 }
 
 // `wire NAME TYPE = ROUTINE ARG ..`
 #[tactic(auto, unfolding(crate::specs::Forms::wire_line))]
-fn wire_line(text: &[u8], wires: &[Wire], line: &[u8]) -> Result<Content, NetKind>
-    requires { length wires.now ≤ 512 }
-    ensures value { result ≡ wire_line (lines_of text.now) wires.now (words_of line.now) }
-    ensures room { OnOk result (length wires.now < 512) }
+fn wire_line(above: &Above, line: &[u8]) -> Result<Content, NetKind>
+    requires { length above.now.net.wires ≤ 512 }
+    ensures value { result ≡ wire_line above.now.lines above.now.net (words_of line.now) }
+    ensures room { OnOk result (length above.now.net.wires < 512) }
     ensures name { OnOk result (is_name (nth (words_of line.now) 1) ≡ true) }
 {
     demand!(is_wire_form(line), NetKind::BadLine);
-    fresh(wires, word_at(line, 1))?;
+    fresh(above, word_at(line, 1))?;
     demand!(is_type(word_at(line, 2)), NetKind::BadType);
-    let routine = routine_at(word_at(line, 4))?;
-    demand!(
-        count_words(line) == words_wanted(&routine),
-        NetKind::BadCount
-    );
-    demand!(are_known(text, wires, &routine, line), NetKind::UnknownName);
-    demand!(axis_is_reached(wires, word_at(line, 2)), NetKind::LaterWire);
-    routine_content(wires, &routine, line)
+    let (routine, types) = routine_at(word_at(line, 4))?;
+    let signature = signature_of(routine, types);
+    let Given { kind, form } = given_line(above, routine, types, &signature, line)?;
+    let item = Item::Block(block_of(&form));
+    Ok(Content { kind, item })
 }
 
-// What a wire line gives once its form and its names are tested.
-fn routine_content(wires: &[Wire], routine: &Routine, line: &[u8]) -> Result<Content, NetKind>
-    requires { length wires.now ≤ 512 }
-    ensures value { result ≡ routine_content wires.now routine.now (words_of line.now) }
-    ensures room { OnOk result (length wires.now < 512) }
+// What a line gives of a routine of this signature: first wires, then numbers.
+#[tactic(auto, unfolding(crate::specs::Forms::given_line))]
+fn given_line(
+    above: &Above,
+    routine: Routine,
+    types: Types,
+    signature: &Signature,
+    line: &[u8],
+) -> Result<Given, NetKind>
+    requires { length above.now.net.wires ≤ 512 }
+    ensures value { result ≡ given_line above.now.lines above.now.net routine types signature.now (words_of line.now) }
+    ensures room { OnOk result (length above.now.net.wires < 512) }
 {
-    let arguments = arguments_of(wires, *routine, line)?;
-    let kind = agreed(wires, block_of(*routine, arguments, 0), word_at(line, 2))?;
-    let sh = shift_of(routine, line)?;
-    demand!(wires.len() < MOST_WIRES, NetKind::TooMany);
-    let item = Item::Block(block_of(*routine, arguments, sh));
-    Ok(Content { kind, item })
+    let sorts = signature.sorts.as_slice();
+    let ranges = signature.ranges.as_slice();
+    let first_number = FIRST_ARGUMENT + sorts.len();
+    demand!(
+        count_words(line) == first_number + ranges.len(),
+        NetKind::BadCount
+    );
+    demand!(names_are_known(above, sorts, line), NetKind::UnknownName);
+    demand!(axis_is_reached(above, word_at(line, 2)), NetKind::LaterWire);
+    let mut form = Form {
+        routine,
+        types,
+        wires: wires_named(above, sorts, line)?,
+        numbers: Few::of([0; 4], 0),
+    };
+    let kind = agreed(above, &form, word_at(line, 2))?;
+    demand!(are_numbers(ranges, first_number, line), NetKind::BadNumber);
+    form.numbers = numbers_in(ranges, first_number, line)?;
+    demand!(above.draft().wires.len() < MOST_WIRES, NetKind::TooMany);
+    Ok(Given { kind, form })
 }
 
 // A line that isn't built: its form, its name and its type are tested first.
@@ -142,48 +162,48 @@ fn routine_content(wires: &[Wire], routine: &Routine, line: &[u8]) -> Result<Con
 fn unbuilt_line(
     has_form: bool,
     has_type: bool,
-    wires: &[Wire],
+    above: &Above,
     line: &[u8],
 ) -> Result<Content, NetKind>
-    ensures value { result ≡ unbuilt_line has_form has_type wires.now (words_of line.now) }
+    ensures value { result ≡ unbuilt_line has_form has_type above.now.net.wires (words_of line.now) }
     ensures none { OnOk result (true ≡ false) }
 {
     demand!(has_form, NetKind::BadLine);
-    fresh(wires, word_at(line, 1))?;
+    fresh(above, word_at(line, 1))?;
     demand!(has_type, NetKind::BadType);
     Err(NetKind::NotBuilt)
 }
 
 // `axis NAME TYPE P P ..` and `table NAME TYPE V V ..`
-fn list_line(wires: &[Wire], line: &[u8]) -> Result<Content, NetKind>
-    ensures value { result ≡ list_line wires.now (words_of line.now) }
+fn list_line(above: &Above, line: &[u8]) -> Result<Content, NetKind>
+    ensures value { result ≡ list_line above.now.net.wires (words_of line.now) }
     ensures none { OnOk result (true ≡ false) }
 {
-    unbuilt_line(count_words(line) >= 4, has_narrow(line), wires, line)
+    unbuilt_line(count_words(line) >= 4, has_narrow(line), above, line)
 }
 
 // `axisstep NAME TYPE OFFSET STEP COUNT` and `axisshift NAME TYPE OFFSET SHIFT COUNT`
-fn spaced_line(wires: &[Wire], line: &[u8]) -> Result<Content, NetKind>
-    ensures value { result ≡ spaced_line wires.now (words_of line.now) }
+fn spaced_line(above: &Above, line: &[u8]) -> Result<Content, NetKind>
+    ensures value { result ≡ spaced_line above.now.net.wires (words_of line.now) }
     ensures none { OnOk result (true ≡ false) }
 {
-    unbuilt_line(count_words(line) == 6, has_narrow(line), wires, line)
+    unbuilt_line(count_words(line) == 6, has_narrow(line), above, line)
 }
 
 // `map NAME TYPE NX NY V V ..`
-fn map_line(wires: &[Wire], line: &[u8]) -> Result<Content, NetKind>
-    ensures value { result ≡ map_line wires.now (words_of line.now) }
+fn map_line(above: &Above, line: &[u8]) -> Result<Content, NetKind>
+    ensures value { result ≡ map_line above.now.net.wires (words_of line.now) }
     ensures none { OnOk result (true ≡ false) }
 {
-    unbuilt_line(count_words(line) >= 5, has_narrow(line), wires, line)
+    unbuilt_line(count_words(line) >= 5, has_narrow(line), above, line)
 }
 
 // `delay NAME TYPE INIT = SOURCE`
-fn delay_line(wires: &[Wire], line: &[u8]) -> Result<Content, NetKind>
-    ensures value { result ≡ delay_line wires.now (words_of line.now) }
+fn delay_line(above: &Above, line: &[u8]) -> Result<Content, NetKind>
+    ensures value { result ≡ delay_line above.now.net.wires (words_of line.now) }
     ensures none { OnOk result (true ≡ false) }
 {
-    unbuilt_line(is_delay_form(line), is_type(word_at(line, 2)), wires, line)
+    unbuilt_line(is_delay_form(line), is_type(word_at(line, 2)), above, line)
 }
 
 // Six words, of which the fifth is `=`.
@@ -193,30 +213,22 @@ fn is_delay_form(line: &[u8]) -> bool
     count_words(line) == 6 && is_literal(word_at(line, 4), b"=")
 }
 
-/// The wire that an `out NAME` names, given the outputs above.
+/// The wire that an `out NAME` names.
 #[tactic(auto, unfolding(crate::specs::Forms::out_line))]
-pub fn out_line(
-    text: &[u8],
-    wires: &[Wire],
-    outs: &[WireNo],
-    line: &[u8],
-) -> Result<WireNo, NetKind>
-    requires { length wires.now ≤ 512 }
-    ensures { result ≡ out_line (lines_of text.now) wires.now outs.now (words_of line.now) }
+pub fn out_line(above: &Above, line: &[u8]) -> Result<WireNo, NetKind>
+    requires { length above.now.net.wires ≤ 512 }
+    ensures { result ≡ out_line above.now.lines above.now.net.wires above.now.net.outs (words_of line.now) }
 {
     demand!(count_words(line) == 2, NetKind::BadLine);
     let name = word_at(line, 1);
     demand!(is_name(name), NetKind::BadName);
-    demand!(!is_output(outs, place_of(wires, name)), NetKind::Repeated);
-    demand!(is_known(text, wires, name), NetKind::UnknownName);
-    let place = wire_above(wires, name)?;
+    demand!(
+        !is_output(&above.draft().outs, above.place_of(name)),
+        NetKind::Repeated
+    );
+    demand!(above.is_known(name), NetKind::UnknownName);
+    let place = wire_above(above, name)?;
     Ok(WireNo(place as u32))
-}
-
-fn words_wanted(routine: &Routine) -> usize
-    ensures { result ≡ words_wanted routine.now }
-{
-    FIRST_ARGUMENT + arity_of(*routine) + usize::from(is_shifting(*routine))
 }
 
 // At least six words, of which the fourth is `=`.
@@ -227,97 +239,80 @@ fn is_wire_form(line: &[u8]) -> bool
 }
 
 #[tactic(auto, unfolding(crate::specs::Forms::fresh))]
-fn fresh(wires: &[Wire], name: &[u8]) -> Result<(), NetKind>
-    ensures value { result ≡ fresh wires.now name.now }
+fn fresh(above: &Above, name: &[u8]) -> Result<(), NetKind>
+    ensures value { result ≡ fresh above.now.net.wires name.now }
     ensures name { OnOk result (is_name name.now ≡ true) }
 {
     demand!(is_name(name), NetKind::BadName);
-    demand!(!is_wire(wires, name), NetKind::Repeated);
+    demand!(!above.is_wire(name), NetKind::Repeated);
     Ok(())
 }
 
 // ---- names
 
-#[tactic(auto, unfolding(net_model::specs::Wires::place_of))]
-fn place_of(wires: &[Wire], name: &[u8]) -> Option<usize>
-    ensures value { result ≡ place_of wires.now name.now }
-    ensures within { IfSome result (λ place. place < length wires.now) }
+fn names_are_known(above: &Above, sorts: &[Sort], line: &[u8]) -> bool
+    requires { length sorts.now ≤ 4 }
+    ensures { result ≡ (axis_passes (is_known above.now.lines above.now.net.wires) (nth (words_of line.now) 2) && are_known above.now.lines above.now.net.wires sorts.now 5 (words_of line.now)) }
 {
-    wires.iter().position(|wire| wire.name.bytes() == name)
+    axis_is_known(above, word_at(line, 2)) && are_known(above, sorts, line)
 }
 
-fn is_wire(wires: &[Wire], name: &[u8]) -> bool
-    ensures { result ≡ is_wire wires.now name.now }
+#[tactic(auto, using(crate::proofs::LineSteps::sorts_left), unfolding(crate::specs::Forms::are_known))]
+fn are_known(above: &Above, sorts: &[Sort], line: &[u8]) -> bool
+    requires { length sorts.now ≤ 4 }
+    ensures { result ≡ are_known above.now.lines above.now.net.wires sorts.now 5 (words_of line.now) }
 {
-    place_of(wires, name).is_some()
-}
-
-#[tactic(auto, unfolding(crate::specs::Forms::is_known))]
-fn is_known(text: &[u8], wires: &[Wire], name: &[u8]) -> bool
-    ensures { result ≡ is_known (lines_of text.now) wires.now name.now }
-{
-    is_wire(wires, name) || is_defined(text, name)
-}
-
-// The word of an argument of this place and type; one that the routine doesn't have repeats the first.
-fn argument_word(line: &[u8], place: usize, ty: Option<Ty>) -> &[u8]
-    requires { place ≤ 2 }
-    ensures { result.now ≡ argument_word (words_of line.now) place ty }
-{
-    match ty {
-        Some(_) => word_at(line, FIRST_ARGUMENT + place),
-        None => word_at(line, FIRST_ARGUMENT),
+    for i in 0..sorts.len() {
+        if !above.is_known(word_at(line, FIRST_ARGUMENT + i)) {
+            return false;
+        }
     }
+    true
 }
 
-fn are_known(text: &[u8], wires: &[Wire], routine: &Routine, line: &[u8]) -> bool
-    ensures { result ≡ are_known (lines_of text.now) wires.now routine.now (words_of line.now) }
+fn axis_is_known(above: &Above, word: &[u8]) -> bool
+    ensures { result ≡ axis_passes (is_known above.now.lines above.now.net.wires) word.now }
 {
-    let types = types_of(*routine);
-    axis_is_known(text, wires, word_at(line, 2))
-        && is_known(text, wires, argument_word(line, 0, types.x))
-        && is_known(text, wires, argument_word(line, 1, types.y))
-        && is_known(text, wires, argument_word(line, 2, types.z))
+    !is_position(word) || above.is_known(axis_name(word))
 }
 
-fn axis_is_known(text: &[u8], wires: &[Wire], word: &[u8]) -> bool
-    ensures { result ≡ axis_passes (is_known (lines_of text.now) wires.now) word.now }
+fn axis_is_reached(above: &Above, word: &[u8]) -> bool
+    ensures { result ≡ axis_passes (is_wire above.now.net.wires) word.now }
 {
-    !is_position(word) || is_known(text, wires, axis_name(word))
+    !is_position(word) || above.is_wire(axis_name(word))
 }
 
-fn axis_is_reached(wires: &[Wire], word: &[u8]) -> bool
-    ensures { result ≡ axis_passes (is_wire wires.now) word.now }
+fn wire_above(above: &Above, name: &[u8]) -> Result<usize, NetKind>
+    ensures value { result ≡ wire_above above.now.net.wires name.now }
+    ensures within { IfOk result (λ place. place < length above.now.net.wires) }
 {
-    !is_position(word) || is_wire(wires, axis_name(word))
-}
-
-fn wire_above(wires: &[Wire], name: &[u8]) -> Result<usize, NetKind>
-    ensures value { result ≡ wire_above wires.now name.now }
-    ensures within { IfOk result (λ place. place < length wires.now) }
-{
-    match place_of(wires, name) {
+    match above.place_of(name) {
         Some(place) => Ok(place),
         None => Err(NetKind::LaterWire),
     }
 }
 
-// The wires that a routine is given.
-#[tactic(auto, unfolding(crate::specs::Forms::arguments_of))]
-fn arguments_of(wires: &[Wire], routine: Routine, line: &[u8]) -> Result<Arguments, NetKind>
-    requires { length wires.now ≤ 512 }
-    ensures value { result ≡ arguments_of wires.now routine (words_of line.now) }
-    ensures within { IfOk result (λ arguments. AreBelow (length wires.now) arguments) }
+// The wires that a routine is given, one for each sort.
+#[tactic(auto, using(crate::proofs::LineSteps::sorts_left), unfolding(crate::specs::Forms::wires_named))]
+fn wires_named(above: &Above, sorts: &[Sort], line: &[u8]) -> Result<Few<WireNo>, NetKind>
+    requires few { length sorts.now ≤ 4 }
+    requires room { length above.now.net.wires ≤ 512 }
+    ensures { result ≡ wires_named above.now.net.wires [] sorts.now 5 (words_of line.now) }
 {
-    let types = types_of(routine);
-    let x = wire_above(wires, argument_word(line, 0, types.x))?;
-    let y = wire_above(wires, argument_word(line, 1, types.y))?;
-    let z = wire_above(wires, argument_word(line, 2, types.z))?;
-    Ok(Arguments {
-        x: WireNo(x as u32),
-        y: WireNo(y as u32),
-        z: WireNo(z as u32),
-    })
+    let mut wires = Few::of([WireNo(0); 4], 0);
+    for i in 0..sorts.len() {
+        wires.push(wire_named(above, word_at(line, FIRST_ARGUMENT + i))?);
+    }
+    Ok(wires)
+}
+
+#[tactic(auto, unfolding(crate::specs::Forms::wire_named))]
+fn wire_named(above: &Above, name: &[u8]) -> Result<WireNo, NetKind>
+    requires { length above.now.net.wires ≤ 512 }
+    ensures { result ≡ wire_named above.now.net.wires name.now }
+{
+    let place = wire_above(above, name)?;
+    Ok(WireNo(place as u32))
 }
 
 fn is_output(outs: &[WireNo], place: Option<usize>) -> bool
@@ -362,42 +357,50 @@ fn const_of(kind: Kind, word: &[u8]) -> Result<Item, NetKind>
     Ok(Item::Const { value })
 }
 
-// The shift, which stands behind the wires of a routine that has one; 0 where it hasn't.
-#[tactic(auto, unfolding(crate::specs::Forms::shift_of))]
-fn shift_of(routine: &Routine, line: &[u8]) -> Result<u8, NetKind>
-    ensures { result ≡ shift_of routine.now (words_of line.now) }
+// Whether the words from number `first` on, one for each range, are numbers.
+#[tactic(auto, using(crate::proofs::LineSteps::ranges_left), unfolding(crate::specs::Forms::are_numbers))]
+fn are_numbers(ranges: &[Range], first: usize, line: &[u8]) -> bool
+    requires few { length ranges.now ≤ 4 }
+    requires near { first ≤ 9 }
+    ensures { result ≡ are_numbers ranges.now first (words_of line.now) }
 {
-    match routine {
-        Routine::ArithOf(op, _) => {
-            if has_shift(*op) {
-                shift_at(*op, word_at(line, FIRST_ARGUMENT + arity_of(*routine)))
-            } else {
-                Ok(0)
-            }
+    for i in 0..ranges.len() {
+        if !is_number(word_at(line, first + i)) {
+            return false;
         }
-        Routine::ScaledOf(_, _) => Ok(0),
     }
+    true
 }
 
-#[tactic(auto, using(crate::proofs::HeldNumbers::shift_at_held))]
-fn shift_at(op: ArithOp, word: &[u8]) -> Result<u8, NetKind>
-    requires { has_shift op ≡ true }
-    ensures { result ≡ shift_at op word.now }
+fn is_number(word: &[u8]) -> bool
+    ensures { result ≡ is_some (number_of word.now) }
 {
-    let Some(sh) = number(word) else {
+    number(word).is_some()
+}
+
+// The numbers that the words from number `first` on write, one for each range.
+#[tactic(auto, unfolding(crate::specs::Forms::numbers_in))]
+fn numbers_in(ranges: &[Range], first: usize, line: &[u8]) -> Result<Few<i64>, NetKind>
+    requires few { length ranges.now ≤ 4 }
+    requires near { first ≤ 9 }
+    ensures { result ≡ numbers_in [] ranges.now first (words_of line.now) }
+{
+    let mut numbers = Few::of([0; 4], 0);
+    for i in 0..ranges.len() {
+        numbers.push(number_in(ranges[i], word_at(line, first + i))?);
+    }
+    Ok(numbers)
+}
+
+#[tactic(auto, using(crate::proofs::HeldNumbers::number_in_held))]
+fn number_in(range: Range, word: &[u8]) -> Result<i64, NetKind>
+    ensures { result ≡ number_in range word.now }
+{
+    let Some(value) = number(word) else {
         return Err(NetKind::BadNumber);
     };
-    demand!(is_shift(op, sh), NetKind::OutOfRange);
-    Ok(sh as u8)
-}
-
-// Whether an operation that shifts can have the number as its shift.
-#[tactic(auto, using(crate::proofs::HeldNumbers::shift_ends))]
-fn is_shift(op: ArithOp, sh: i64) -> bool
-    requires { has_shift op ≡ true }
-    ensures { result ≡ (int_le (pos 0) sh && is_shift op (unsigned_abs sh)) }
-{
-    0 <= sh && sh <= i64::from(GREATEST_SHIFT)
+    demand!(in_range(range, value), NetKind::OutOfRange);
+    Ok(value)
 }
 
 // ---- types
@@ -421,14 +424,14 @@ fn is_narrow(ty: Option<Ty>) -> bool
     matches!(ty, Some(Ty::U8 | Ty::S8 | Ty::U16 | Ty::S16))
 }
 
-// The kind that the wire of a block has by its type word, where the types of both agree.
+// The kind that the wire of a form has by its type word, where the types of both agree.
 #[tactic(auto, unfolding(crate::specs::Forms::agreed))]
-fn agreed(wires: &[Wire], block: Block, word: &[u8]) -> Result<Kind, NetKind>
-    ensures { result ≡ agreed wires.now block word.now }
+fn agreed(above: &Above, form: &Form, word: &[u8]) -> Result<Kind, NetKind>
+    ensures { result ≡ agreed above.now.net form.now word.now }
 {
     let Some(kind) = kind_of(word) else {
         return Err(NetKind::TypeDiffers);
     };
-    demand!(agrees(wires, kind, &block), NetKind::TypeDiffers);
+    demand!(form_agrees(above.draft(), kind, form), NetKind::TypeDiffers);
     Ok(kind)
 }

@@ -1,15 +1,15 @@
 // Prints the canonical text of a network.
-ghost use Rattle.std.specs.Prelude.{◌≡◌, ◌++◌, [], ◌∷◌, true, pos, map, take, codes, IfOk, OnOk, if◌then◌else◌};
+ghost use Rattle.std.specs.Prelude.{◌≡◌, ◌++◌, [], ◌∷◌, true, map, codes, IfOk, OnOk};
 ghost use Rattle.std.specs.Fmt.{signed_decimal};
 ghost use Rattle.text_words.specs.Printed.{behind_spaces, spaced};
+ghost use Rattle.fx_routines.specs.Names.{routine_name};
 ghost use Rattle.net_model.specs.Wires.{wire_at};
-ghost use Rattle.net_model.specs.Validity.{item_agrees, takes_block};
-ghost use Rattle.net_text.specs.Printing.{PrintedNetworksAreRead, argument_words, block_name, kind_word, lines_below, out_words, point_word, shift_words, text_of, wire_words};
+ghost use Rattle.net_model.specs.Validity.{item_agrees, takes_form};
+ghost use Rattle.net_text.specs.Printing.{PrintedNetworksAreRead, argument_words, form_words, given_words, kind_word, lines_below, number_words, out_words, point_word, text_of, wire_words};
 
-use crate::routine_word::{Routine, arity_of};
-use fx_routines::{Routine as Named, push_name, type_word};
+use fx_routines::{push_name, type_word};
 use itoa::Buffer;
-use net_model::{Block, Item, Kind, Network, Wire, WireNo, has_shift};
+use net_model::{Form, Item, Kind, Network, Wire, WireNo, form_of};
 use std::alloc::{AllocError, Global};
 
 /// The canonical text of a network: its wires and its outputs in their order, a line each, with one
@@ -34,9 +34,8 @@ pub fn law_of_printing()
 fn push_wires(text: &mut Vec<u8>, net: &Network) -> Result<(), AllocError>
     ensures { OnOk result (text.new.items ≡ text.old.items ++ lines_below (map (wire_words net.now.wires) net.now.wires)) }
 {
-    let wires = net.wires();
-    for wire in wires {
-        push_wire(text, wires, wire)?;
+    for wire in net.wires() {
+        push_wire(text, net, wire)?;
     }
     Ok(())
 }
@@ -59,15 +58,15 @@ fn push_out(text: &mut Vec<u8>, wires: &[Wire], out: WireNo) -> Result<(), Alloc
     push_piece(text, b' ', name_of(wires, out))
 }
 
-fn push_wire(text: &mut Vec<u8>, wires: &[Wire], wire: &Wire) -> Result<(), AllocError>
-    requires { item_agrees wires.now wire.now.kind wire.now.item ≡ true }
-    ensures { OnOk result (text.new.items ≡ text.old.items ++ 10 ∷ spaced (wire_words wires.now wire.now)) }
+fn push_wire(text: &mut Vec<u8>, net: &Network, wire: &Wire) -> Result<(), AllocError>
+    requires { item_agrees net.now wire.now.kind wire.now.item ≡ true }
+    ensures { OnOk result (text.new.items ≡ text.old.items ++ 10 ∷ spaced (wire_words net.now.wires wire.now)) }
 {
     let name = wire.name.bytes();
     match wire.item {
         Item::Input { lo, hi } => push_input(text, name, wire.kind, lo, hi),
         Item::Const { value } => push_const(text, name, wire.kind, value),
-        Item::Block(block) => push_block(text, wires, name, wire.kind, &block),
+        Item::Block(block) => { push_block(text, net.wires(), name, wire.kind, &form_of(block)) },
     }
 }
 
@@ -97,14 +96,14 @@ fn push_block(
     wires: &[Wire],
     name: &[u8],
     kind: Kind,
-    block: &Block,
+    form: &Form,
 ) -> Result<(), AllocError>
-    requires { takes_block block.now ≡ true }
-    ensures { OnOk result (text.new.items ≡ text.old.items ++ 10 ∷ spaced (codes "wire" ∷ name.now ∷ kind_word kind ∷ codes "=" ∷ block_name block.now ∷ (argument_words wires.now block.now ++ shift_words block.now))) }
+    requires { takes_form form.now ≡ true }
+    ensures { OnOk result (text.new.items ≡ text.old.items ++ 10 ∷ spaced (codes "wire" ∷ name.now ∷ kind_word kind ∷ codes "=" ∷ form_words wires.now form.now)) }
 {
     push_front(text, b"wire", name, kind)?;
-    push_routine(text, *block)?;
-    push_given(text, wires, block)
+    push_routine(text, form)?;
+    push_given(text, wires, form)
 }
 
 // Appends the keyword, the name and the type that a wire's line begins with.
@@ -116,89 +115,39 @@ fn push_front(text: &mut Vec<u8>, keyword: &[u8], name: &[u8], kind: Kind) -> Re
     push_kind(text, kind)
 }
 
-// Appends the name of a block's routine behind an equals sign.
-#[tactic(auto, unfolding(crate::specs::Printing::block_name))]
-fn push_routine(text: &mut Vec<u8>, block: Block) -> Result<(), AllocError>
-    requires { takes_block block ≡ true }
-    ensures { OnOk result (text.new.items ≡ text.old.items ++ behind_spaces (codes "=" ∷ block_name block ∷ [])) }
+// Appends the name of a form's routine behind an equals sign.
+fn push_routine(text: &mut Vec<u8>, form: &Form) -> Result<(), AllocError>
+    requires { takes_form form.now ≡ true }
+    ensures { OnOk result (text.new.items ≡ text.old.items ++ behind_spaces (codes "=" ∷ routine_name form.now.routine form.now.types ∷ [])) }
 {
     push_piece(text, b' ', b"= ")?;
-    match block {
-        Block::Arith { op, v, .. } => push_name(text, Named::Arith(op), v.types()),
-        Block::Scaled { op, v, .. } => push_name(text, Named::Scaled(op), v.types()),
+    push_name(text, form.routine, form.types)
+}
+
+// Appends what a form is given, each word behind a space.
+fn push_given(text: &mut Vec<u8>, wires: &[Wire], form: &Form) -> Result<(), AllocError>
+    ensures { OnOk result (text.new.items ≡ text.old.items ++ behind_spaces (given_words wires.now form.now)) }
+{
+    push_arguments(text, wires, form.wires.as_slice())?;
+    push_numbers(text, form.numbers.as_slice())
+}
+
+fn push_arguments(text: &mut Vec<u8>, all: &[Wire], wires: &[WireNo]) -> Result<(), AllocError>
+    ensures { OnOk result (text.new.items ≡ text.old.items ++ behind_spaces (argument_words all.now wires.now)) }
+{
+    for wire in wires {
+        push_piece(text, b' ', name_of(all, *wire))?;
     }
+    Ok(())
 }
 
-// Appends what a block is given: its wires, and a count of places where its routine has one.
-#[tactic(auto, using(crate::proofs::PrintedPieces::behind_spaces_append))]
-fn push_given(text: &mut Vec<u8>, wires: &[Wire], block: &Block) -> Result<(), AllocError>
-    ensures { OnOk result (text.new.items ≡ text.old.items ++ behind_spaces (argument_words wires.now block.now ++ shift_words block.now)) }
+fn push_numbers(text: &mut Vec<u8>, numbers: &[i64]) -> Result<(), AllocError>
+    ensures { OnOk result (text.new.items ≡ text.old.items ++ behind_spaces (number_words numbers.now)) }
 {
-    push_arguments(text, wires, *block)?;
-    push_shift(text, *block)
-}
-
-// Appends the names of the wires that a block reads, each behind a space.
-fn push_arguments(text: &mut Vec<u8>, wires: &[Wire], block: Block) -> Result<(), AllocError>
-    ensures { OnOk result (text.new.items ≡ text.old.items ++ behind_spaces (argument_words wires.now block)) }
-{
-    match block {
-        Block::Arith { op, v, x, y, z, .. } => {
-            let count = arity_of(Routine::ArithOf(op, v));
-            push_names(text, wires, count, x, y, z)
-        }
-        Block::Scaled { op, v, x, y } => {
-            let count = arity_of(Routine::ScaledOf(op, v));
-            push_names(text, wires, count, x, y, x)
-        }
+    for number in numbers {
+        push_number(text, b' ', *number)?;
     }
-}
-
-// Appends the names of the first `count` of three wires, each behind a space.
-fn push_names(
-    text: &mut Vec<u8>,
-    wires: &[Wire],
-    count: usize,
-    x: WireNo,
-    y: WireNo,
-    z: WireNo,
-) -> Result<(), AllocError>
-    ensures { OnOk result (text.new.items ≡ text.old.items ++ behind_spaces (take count ((wire_at wires.now x.0).name ∷ (wire_at wires.now y.0).name ∷ (wire_at wires.now z.0).name ∷ []))) }
-{
-    push_if(text, count > 0, name_of(wires, x))?;
-    push_if(text, count > 1, name_of(wires, y))?;
-    push_if(text, count > 2, name_of(wires, z))
-}
-
-// Appends the word behind a space, where it is there.
-fn push_if(text: &mut Vec<u8>, there: bool, word: &[u8]) -> Result<(), AllocError>
-    ensures { OnOk result (text.new.items ≡ text.old.items ++ (if there then 32 ∷ word.now else [])) }
-{
-    if there {
-        push_piece(text, b' ', word)
-    } else {
-        Ok(())
-    }
-}
-
-// Appends the count of places behind a space, where a block's routine has one.
-fn push_shift(text: &mut Vec<u8>, block: Block) -> Result<(), AllocError>
-    ensures { OnOk result (text.new.items ≡ text.old.items ++ behind_spaces (shift_words block)) }
-{
-    match block {
-        Block::Arith { op, sh, .. } => push_places(text, has_shift(op), sh),
-        Block::Scaled { .. } => Ok(()),
-    }
-}
-
-fn push_places(text: &mut Vec<u8>, there: bool, sh: u8) -> Result<(), AllocError>
-    ensures { OnOk result (text.new.items ≡ text.old.items ++ behind_spaces (if there then signed_decimal (pos sh) ∷ [] else [])) }
-{
-    if there {
-        push_number(text, b' ', i64::from(sh))
-    } else {
-        Ok(())
-    }
+    Ok(())
 }
 
 // Appends the type word of a kind behind a space.

@@ -1,15 +1,17 @@
 // Reads a network's text.
-ghost use Rattle.std.specs.Prelude.{◌≡◌, ◌+◌, ◌<◌, ◌≤◌, ◌∷◌, ◌++◌, ◌^◌, [], List, ℕ, length, true, IfErr, IfOk, Ok, if◌then◌else◌};
+ghost use Rattle.std.specs.Prelude.{◌≡◌, ◌+◌, ◌<◌, ◌≤◌, ◌^◌, [], List, ℕ, length, codes, true, IfErr, IfOk, Ok, if◌then◌else◌};
 ghost use Rattle.text_words.specs.Lines.{lines_from, lines_of, words_of};
 ghost use Rattle.text_words.specs.Names.{is_name};
-ghost use Rattle.net_model.specs.Wires.{NetData};
+ghost use Rattle.net_model.specs.Wires.{NetData, no_net, with_out, with_wire};
 ghost use Rattle.net_model.specs.Validity.{IsValid};
 ghost use Rattle.net_model.specs.Drafts.{data_of};
-ghost use Rattle.text_words.specs.Readers.{at_line, behind_all, behind_line, read_below};
+ghost use Rattle.text_words.specs.Readers.{at_line, behind_all, behind_line, head_below, read_below};
+ghost use Rattle.net_text.specs.Names.{AreFirst, names_below, names_of};
 ghost use Rattle.net_text.specs.Text.{GivesDraft, Reads, after_definition, after_out, net_reader, network_of};
 
 use crate::line_forms::{Content, defining_line, out_line};
-use net_model::{Draft, Name, NameFault, NetKind, NetRefusal, Network, Wire, WireNo, has_ends};
+use crate::names::{Above, Names};
+use net_model::{Draft, Name, NameFault, NetKind, Network, Wire, WireNo, has_ends};
 use std::alloc::Global;
 use text_words::{behind_head, count_words, is_literal, next_line, word_at};
 
@@ -46,16 +48,14 @@ pub fn law_of_reading()
 {}
 
 // The network of a valid draft.
-#[tactic(auto, using(net_model::proofs::TestedDrafts::tested_if_valid))]
 fn build(alloc: Global, draft: Draft) -> Result<Network, NetError>
     requires { IsValid (data_of draft) }
     ensures made { IfOk result (λ net. net ≡ data_of draft) }
     ensures fails { IfErr result (λ fault. fault ≡ NetError.OutOfMemory) }
 {
-    match Network::new(alloc, draft) {
+    match Network::of_valid(alloc, draft) {
         Ok(net) => Ok(net),
-        Err(NetRefusal::OutOfMemory) => Err(NetError::OutOfMemory),
-        Err(NetRefusal::At { .. }) => unreachable!(),
+        Err(_) => Err(NetError::OutOfMemory),
     }
 }
 
@@ -65,16 +65,34 @@ fn read_draft(alloc: Global, text: &[u8]) -> Result<Draft, NetError>
     ensures { GivesDraft (network_of text.now) result }
 {
     match behind_head(b"net", text) {
-        Ok((head, lines)) => read_lines(alloc, text, head, lines),
+        Ok((head, lines)) => read_below_head(alloc, text, head, lines),
         Err(line) => Err(fault_at(line, NetKind::NoHead)),
+    }
+}
+
+// The lines below the head, once the names that the text defines are found.
+fn read_below_head<'a>(
+    alloc: Global,
+    text: &'a [u8],
+    head: u32,
+    lines: &[u8],
+) -> Result<Draft, NetError>
+    requires below { head_below (codes "net") 0 (lines_of text.now) ≡ Ok (record { line = head; below = lines_from lines.now }) }
+    requires few { head + length lines.now < 2 ^ 32 }
+    ensures { GivesDraft (read_below (net_reader (lines_of text.now)) head no_net (lines_from lines.now)) result }
+{
+    match Names::of(alloc, text) {
+        Ok(names) => read_lines(alloc, &names, head, lines),
+        Err(_) => Err(NetError::OutOfMemory),
     }
 }
 
 // The lines below the head.
 #[tactic(auto, unfolding(text_words::specs::Readers::read_below))]
-fn read_lines(alloc: Global, text: &[u8], head: u32, lines: &[u8]) -> Result<Draft, NetError>
-    requires { head + length lines.now < 2 ^ 32 }
-    ensures { GivesDraft (read_below (net_reader (lines_of text.now)) head (record { wires = []; outs = [] }) (lines_from lines.now)) result }
+fn read_lines(alloc: Global, names: &Names, head: u32, lines: &[u8]) -> Result<Draft, NetError>
+    requires few { head + length lines.now < 2 ^ 32 }
+    requires below { names_below [] (lines_from lines.now) ≡ names_of names.now }
+    ensures { GivesDraft (read_below (net_reader names.now) head no_net (lines_from lines.now)) result }
 {
     let mut draft = Draft {
         wires: Vec::new(alloc),
@@ -84,7 +102,7 @@ fn read_lines(alloc: Global, text: &[u8], head: u32, lines: &[u8]) -> Result<Dra
     let mut above = head;
     while let Some((line, rest)) = next_line(left) {
         above += 1;
-        draft = behind_line(alloc, text, draft, above, line)?;
+        draft = behind_line(alloc, names, draft, above, line)?;
         left = rest;
     }
     behind_all(draft, above)
@@ -93,31 +111,33 @@ fn read_lines(alloc: Global, text: &[u8], head: u32, lines: &[u8]) -> Result<Dra
 #[tactic(auto, unfolding(text_words::specs::Readers::behind_line, crate::specs::Text::after_line))]
 fn behind_line(
     alloc: Global,
-    text: &[u8],
+    names: &Names,
     draft: Draft,
     number: u32,
     line: &[u8],
 ) -> Result<Draft, NetError>
-    requires { length draft.wires.items ≤ 512 }
-    ensures value { GivesDraft (at_line (net_reader (lines_of text.now)) number (behind_line (net_reader (lines_of text.now)) (data_of draft) (words_of line.now))) result }
+    requires few { length draft.wires.items ≤ 512 }
+    requires first { AreFirst draft.wires.items (names_of names.now) }
+    ensures value { GivesDraft (at_line (net_reader names.now) number (behind_line (net_reader names.now) (data_of draft) (words_of line.now))) result }
     ensures few { IfOk result (λ next. length next.wires.items ≤ 512) }
 {
     if count_words(line) == 0 {
         return Ok(draft);
     }
     if is_literal(word_at(line, 0), b"out") {
-        return after_out(text, draft, number, line);
+        return after_out(names, draft, number, line);
     }
-    after_definition(alloc, text, draft, number, line)
+    after_definition(alloc, names, draft, number, line)
 }
 
 #[tactic(auto, unfolding(crate::specs::Text::after_out))]
-fn after_out(text: &[u8], draft: Draft, number: u32, line: &[u8]) -> Result<Draft, NetError>
-    requires { length draft.wires.items ≤ 512 }
-    ensures value { GivesDraft (at_line (net_reader (lines_of text.now)) number (after_out (lines_of text.now) (data_of draft) (words_of line.now))) result }
+fn after_out(names: &Names, draft: Draft, number: u32, line: &[u8]) -> Result<Draft, NetError>
+    requires few { length draft.wires.items ≤ 512 }
+    requires first { AreFirst draft.wires.items (names_of names.now) }
+    ensures value { GivesDraft (at_line (net_reader names.now) number (after_out names.now (data_of draft) (words_of line.now))) result }
     ensures few { IfOk result (λ next. length next.wires.items ≤ 512) }
 {
-    match out_line(text, &draft.wires, &draft.outs, line) {
+    match out_line(&Above::new(names, &draft), line) {
         Ok(out) => with_out(draft, out),
         Err(kind) => Err(fault_at(number, kind)),
     }
@@ -126,23 +146,24 @@ fn after_out(text: &[u8], draft: Draft, number: u32, line: &[u8]) -> Result<Draf
 #[tactic(auto, unfolding(crate::specs::Text::after_definition))]
 fn after_definition(
     alloc: Global,
-    text: &[u8],
+    names: &Names,
     draft: Draft,
     number: u32,
     line: &[u8],
 ) -> Result<Draft, NetError>
-    requires { length draft.wires.items ≤ 512 }
-    ensures value { GivesDraft (at_line (net_reader (lines_of text.now)) number (after_definition (lines_of text.now) (data_of draft) (words_of line.now))) result }
+    requires few { length draft.wires.items ≤ 512 }
+    requires first { AreFirst draft.wires.items (names_of names.now) }
+    ensures value { GivesDraft (at_line (net_reader names.now) number (after_definition names.now (data_of draft) (words_of line.now))) result }
     ensures few { IfOk result (λ next. length next.wires.items ≤ 512) }
 {
-    match defining_line(text, &draft.wires, line) {
+    match defining_line(&Above::new(names, &draft), line) {
         Ok(content) => with_wire(alloc, draft, word_at(line, 1), content),
         Err(kind) => Err(fault_at(number, kind)),
     }
 }
 
 fn with_out(mut draft: Draft, out: WireNo) -> Result<Draft, NetError>
-    ensures added { IfOk result (λ next. data_of next ≡ record { wires = draft.wires.items; outs = draft.outs.items ++ out ∷ [] }) }
+    ensures added { IfOk result (λ next. data_of next ≡ with_out (data_of draft) out) }
     ensures fails { IfErr result (λ fault. fault ≡ NetError.OutOfMemory) }
 {
     match draft.outs.push(out) {
@@ -158,7 +179,7 @@ fn with_wire(
     content: Content,
 ) -> Result<Draft, NetError>
     requires { is_name name.now ≡ true }
-    ensures added { IfOk result (λ next. data_of next ≡ record { wires = draft.wires.items ++ record { name = name.now; kind = content.kind; item = content.item } ∷ []; outs = draft.outs.items }) }
+    ensures added { IfOk result (λ next. data_of next ≡ with_wire (data_of draft) (record { name = name.now; kind = content.kind; item = content.item })) }
     ensures fails { IfErr result (λ fault. fault ≡ NetError.OutOfMemory) }
 {
     let name = named(alloc, name)?;

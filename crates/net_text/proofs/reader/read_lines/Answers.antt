@@ -1,14 +1,30 @@
-use Rattle.std.proofs.Common.{sym, ap, subst, ◌∙◌}
-use Rattle.text_words.specs.Lines.{lines_of}
+use Rattle.std.proofs.Common.{rules, ◌+◌, sym, ap, subst, ◌∙◌}
+use Rattle.text_words.specs.Lines.{lines_from}
 use Rattle.text_words.specs.Readers.{read_below}
 use Rattle.net_model.specs.Drafts.{data_of}
+use Rattle.net_text.specs.Names.{names_of}
 use Rattle.net_text.specs.Text.{GivesDraft, net_reader}
+use Rattle.net_text.proofs.NamePlaces.{wires_first}
+use Rattle.net_text.proofs.NamesKept.{names_go_on}
 use Rattle.net_text.proofs.reader.read_lines.Goals as goal
 
 -- no line is left
 pub returns : goal.returns
 unfolding read_below
 returns c =
-    let reader = net_reader (lines_of c.args.text.now) in
+    let reader = net_reader c.args.names.now in
     let draft = data_of c.loop-line.draft in
-    subst (λ wanted. GivesDraft wanted c.behind_all.result) (sym (ap (read_below reader c.loop-line.above draft) c.in_default.ensures.lines) ∙ c.loop-line.invariant.same) (c.behind_all.ensures (lines_of c.args.text.now))
+    subst (λ wanted. GivesDraft wanted c.behind_all.result) (sym (ap (read_below reader c.loop-line.above draft) c.in_default.ensures.lines) ∙ c.loop-line.invariant.same) (c.behind_all.ensures c.args.names.now)
+
+pub behind_line-requires-clause-first : goal.behind_line-requires-clause-first
+behind_line-requires-clause-first c =
+    wires_first c.loop-line.draft.wires.items (names_of c.args.names.now) (lines_from c.loop-line.left.now) c.loop-line.invariant.named
+
+pub loop-line-preserved : goal.loop-line-preserved
+unfolding read_below
+loop-line-preserved c = record {
+  same = search rules;
+  counted = search rules;
+  named = names_go_on c.args.names.now (c.loop-line.above + 1) (data_of c.loop-line.draft) (data_of c.in_ok-draft.draft) c.in-Some.line.now (lines_from c.loop-line.left.now) (lines_from c.in-Some.rest.now) c.in_ok-draft.ensures.value c.in-Some.ensures.lines c.loop-line.invariant.named;
+  few = search rules;
+}

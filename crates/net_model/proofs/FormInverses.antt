@@ -1,0 +1,216 @@
+-- A block is the block of its form, and the form of a form's block is that form.
+use Rattle.std.proofs.Common.{◌≡◌, ℕ, zero, ◌+◌, ◌<◌, ◌≤◌, Bool, true, false, ◌&&◌, ◌==◌, int_le, List, [], ◌∷◌, suc, map, length, take, drop, get_or, ℤ, pos, negsuc, unsigned_abs, refl, sym, ap, ap₂, ◌∙◌, arith, eqb-true, true≢false, eq-eqb}
+use Rattle.std.specs.List.{list_all}
+use Rattle.std.specs.Ordering.{int_eq}
+use Rattle.std.proofs.lemmas.Bool.{and_parts, and_from}
+use Rattle.std.proofs.lemmas.Bool.Decides.{Decides-int_eq}
+use Rattle.fx_routines.specs.declared.operation.ArithOp.{ArithOp}
+use Rattle.fx_routines.specs.declared.operation.ArithOp.TheVariants.{Abs, MulDiv, MulShRight, DivShLeft, Limit, Min, Max, RateLimiter}
+use Rattle.fx_routines.specs.declared.operation.ScaledOp.{ScaledOp}
+use Rattle.fx_routines.specs.declared.operation.ScaledOp.TheVariants.{Convert}
+use Rattle.fx_routines.specs.declared.operation.Types.{Types}
+use Rattle.fx_routines.specs.declared.table.Routine.{Routine}
+use Rattle.fx_routines.specs.declared.table.Routine.TheVariants.{Arith as NamedArith, Scaled as NamedScaled}
+use Rattle.mfx_arith.specs.Operations.{argument_types}
+use Rattle.mfx_scaled.specs.Operations.{argument_types as scaled_types}
+use Rattle.net_model.specs.declared.wires.WireNo.{WireNo}
+use Rattle.net_model.specs.declared.wires.Block.{Block}
+use Rattle.net_model.specs.declared.wires.Block.TheVariants.{Arith, Scaled}
+use Rattle.net_model.specs.declared.signatures.Sort.TheVariants.{Number}
+use Rattle.net_model.specs.declared.block_forms.Form.{Form}
+use Rattle.net_model.specs.Built.{is_built}
+use Rattle.net_model.specs.Signatures.{signature_of, arith_ranges}
+use Rattle.net_model.specs.BlockForms.{in_range, in_ranges, held_by, signature_in, form_of, first_of, repeats_first, adds_no_number, wire_or_first, number_or_zero, block_of}
+use Rattle.net_model.proofs.SideBySide.{same_lengths}
+
+-- ---- a block, from its form
+
+get_or-nil : {A : Type 0} (p : ℕ) (d : A) → get_or [] p d ≡ d
+get_or-nil zero d = refl
+get_or-nil (suc p) d = refl
+
+-- an element that is left out is read as what is the same as each of those
+left_out : {A : Type 0} (same : A → Bool) (d e : A) → ((a : A) → same a ≡ true → a ≡ d) → (xs : List A) (n p : ℕ) → list_all same (drop n xs) ≡ true → p < length xs → get_or (take n xs) p d ≡ get_or xs p e
+left_out same d e is [] n p h lt = absurd (omega arith)
+left_out same d e is (x ∷ xs) zero zero h lt = sym (is x (and_parts (same x) (list_all same xs) h).0)
+left_out same d e is (x ∷ xs) zero (suc p) h lt = sym (get_or-nil p d) ∙ left_out same d e is xs zero p (and_parts (same x) (list_all same xs) h).1 (omega arith)
+left_out same d e is (x ∷ xs) (suc n) zero h lt = refl
+left_out same d e is (x ∷ xs) (suc n) (suc p) h lt = left_out same d e is xs n p h (omega arith)
+
+same_wire : (a b : WireNo) → (a.0 == b.0) ≡ true → a ≡ b
+same_wire a b h = ap (λ n. record { 0 = n }) (eqb-true a.0 b.0 h)
+
+-- a wire of a block, from its form
+wire_back : (wires : List WireNo) (n p : ℕ) (d : WireNo) → list_all (λ w. w.0 == (first_of (take n wires)).0) (drop n wires) ≡ true → p < length wires → wire_or_first (take n wires) p ≡ get_or wires p d
+wire_back wires n p d h lt = left_out (λ w. w.0 == (first_of (take n wires)).0) (first_of (take n wires)) d (λ a. same_wire a (first_of (take n wires))) wires n p h lt
+
+-- a number of a block, from its form
+number_back : (numbers : List ℤ) (n p : ℕ) (d : ℤ) → list_all (λ k. int_eq k (pos 0)) (drop n numbers) ≡ true → p < length numbers → number_or_zero (take n numbers) p ≡ get_or numbers p d
+number_back numbers n p d h lt = left_out (λ k. int_eq k (pos 0)) (pos 0) d (λ a. (Decides-int_eq a (pos 0)).0) numbers n p h lt
+
+-- a block whose spare places are the usual ones is that of its form
+pub block_back : (b : Block) → repeats_first b ≡ true → adds_no_number b ≡ true → block_of (form_of b) ≡ b
+unfolding form_of block_of
+block_back (Arith op v x y z sh) repeats adds =
+    let sorts = length (signature_of (NamedArith op) v).sorts in
+    let wires = x ∷ y ∷ z ∷ [] in
+    let number = number_back (pos sh ∷ []) (length (signature_of (NamedArith op) v).ranges) 0 (pos 0) adds (omega arith) in
+    ap₂ (λ a b. Arith op v a b (wire_or_first (take sorts wires) 2) (unsigned_abs (number_or_zero (take (length (signature_of (NamedArith op) v).ranges) (pos sh ∷ [])) 0))) (wire_back wires sorts 0 x repeats (omega arith)) (wire_back wires sorts 1 x repeats (omega arith))
+    ∙ ap₂ (λ c n. Arith op v x y c (unsigned_abs n)) (wire_back wires sorts 2 x repeats (omega arith)) number
+block_back (Scaled op v x y) repeats adds =
+    let sorts = length (signature_of (NamedScaled op) v).sorts in
+    let wires = x ∷ y ∷ [] in
+    ap₂ (λ a b. Scaled op v a b) (wire_back wires sorts 0 x repeats (omega arith)) (wire_back wires sorts 1 x repeats (omega arith))
+
+-- ---- a form, from its block
+
+-- the values of a function at so many places from k on
+values_from : {A : Type 0} → (ℕ → A) → ℕ → ℕ → List A
+values_from f k zero = []
+values_from f k (suc m) = f k ∷ values_from f (k + 1) m
+
+-- a list is what stands first where each place is filled from it
+filled : {A : Type 0} (f : ℕ → A) (d : A) (xs : List A) (k m : ℕ) → ((p : ℕ) → f (k + p) ≡ get_or xs p d) → length xs ≤ m → take (length xs) (values_from f k m) ≡ xs
+unfolding values_from
+filled f d [] k m h le = refl
+filled f d (x ∷ xs) k zero h le = absurd (omega arith)
+filled f d (x ∷ xs) k (suc m) h le =
+    let here : k ≡ k + 0 = omega arith in
+    ap₂ (λ y ys. y ∷ ys) (ap f here ∙ h 0) (filled f d xs (k + 1) m (λ p. let next : k + 1 + p ≡ k + suc p = omega arith in ap f next ∙ h (suc p)) (omega arith))
+
+-- and what stands behind is the rest
+rest_filled : {A : Type 0} (same : A → Bool) (f : ℕ → A) (d : A) (xs : List A) (k m : ℕ) → ((p : ℕ) → f (k + p) ≡ get_or xs p d) → same d ≡ true → list_all same (drop (length xs) (values_from f k m)) ≡ true
+unfolding values_from
+rest_filled same f d [] k zero h is = refl
+rest_filled same f d [] k (suc m) h is =
+    let here : k ≡ k + 0 = omega arith in
+    and_from (same (f k)) (list_all same (values_from f (k + 1) m)) (ap same (ap f here ∙ h 0) ∙ is)
+    (rest_filled same f d [] (k + 1) m (λ p. let next : k + 1 + p ≡ k + suc p = omega arith in ap f next ∙ h (suc p) ∙ sym (get_or-nil p d)) is)
+rest_filled same f d (x ∷ xs) k zero h is = refl
+rest_filled same f d (x ∷ xs) k (suc m) h is =
+    rest_filled same f d xs (k + 1) m (λ p. let next : k + 1 + p ≡ k + suc p = omega arith in ap f next ∙ h (suc p)) is
+
+from_zero : {A : Type 0} (f : ℕ → A) (p : ℕ) → f (0 + p) ≡ f p
+from_zero f p = let e : 0 + p ≡ p = omega arith in ap f e
+
+-- what a form of a built routine keeps
+pub record IsFull (form : Form) : Type 0 where
+  pub built : is_built form.routine ≡ true
+  pub wires : length (signature_in form).sorts ≡ length form.wires
+  pub numbers : in_ranges (signature_in form).ranges form.numbers ≡ true
+
+-- a number that isn't below 0 is the natural number of its size
+natural : (n : ℤ) (test : Bool) → (int_le (pos 0) n && test) ≡ true → pos (unsigned_abs n) ≡ n
+natural (pos n) test h = refl
+natural (negsuc n) test h = absurd (cc)
+
+-- a count of places isn't below 0
+place_is_natural : (numbers : List ℤ) → in_ranges (record { low = pos 0; high = 15 } ∷ []) numbers ≡ true → (p : ℕ) → pos (unsigned_abs (number_or_zero numbers p)) ≡ number_or_zero numbers p
+place_is_natural [] h p = absurd (cc)
+place_is_natural (n ∷ numbers) h zero = natural n (int_le n (pos 15)) (and_parts (in_range (record { low = pos 0; high = 15 }) n) (in_ranges [] numbers) h).0
+place_is_natural (n ∷ []) h (suc p) = ap (λ k. pos (unsigned_abs k)) (get_or-nil p (pos 0)) ∙ sym (get_or-nil p (pos 0))
+place_is_natural (n ∷ m ∷ numbers) h (suc p) = absurd (true≢false (sym (and_parts (in_range (record { low = pos 0; high = 15 }) n) false h).1))
+
+none_is_natural : (numbers : List ℤ) → in_ranges [] numbers ≡ true → (p : ℕ) → pos (unsigned_abs (number_or_zero numbers p)) ≡ number_or_zero numbers p
+none_is_natural [] h p = ap (λ k. pos (unsigned_abs k)) (get_or-nil p (pos 0)) ∙ sym (get_or-nil p (pos 0))
+none_is_natural (n ∷ numbers) h p = absurd (cc)
+
+arith_naturals : (op : ArithOp) (numbers : List ℤ) → in_ranges (arith_ranges op) numbers ≡ true → (p : ℕ) → pos (unsigned_abs (number_or_zero numbers p)) ≡ number_or_zero numbers p
+arith_naturals MulShRight numbers h p = place_is_natural numbers h p
+arith_naturals DivShLeft numbers h p = place_is_natural numbers h p
+arith_naturals other numbers h p = none_is_natural numbers h p
+
+-- how many wires and numbers a block has room for
+few_arith_types : (op : ArithOp) (v : Types) → length (map Number (argument_types op v)) ≤ 3
+few_arith_types MulDiv v = omega arith
+few_arith_types Abs v = omega arith
+few_arith_types Limit v = omega arith
+few_arith_types Min v = omega arith
+few_arith_types Max v = omega arith
+few_arith_types RateLimiter v = omega arith
+few_arith_types other v = omega arith
+
+few_scaled_types : (op : ScaledOp) (v : Types) → length (map Number (scaled_types op v)) ≤ 2
+few_scaled_types Convert v = omega arith
+few_scaled_types other v = omega arith
+
+few_arith_ranges : (op : ArithOp) → length (arith_ranges op) ≤ 1
+few_arith_ranges MulShRight = omega arith
+few_arith_ranges DivShLeft = omega arith
+few_arith_ranges other = omega arith
+
+-- what a block has that is made of a form
+pub record IsBlockOf (form : Form) (b : Block) : Type 0 where
+  pub routine : (held_by b).routine ≡ form.routine
+  pub types : (held_by b).types ≡ form.types
+  pub back : form_of b ≡ form
+  pub repeats : repeats_first b ≡ true
+  pub adds : adds_no_number b ≡ true
+
+abbrev of : Routine → Types → List WireNo → List ℤ → Form
+of routine v wires numbers = record { routine = routine; types = v; wires = wires; numbers = numbers }
+
+-- as many wires as there are sorts come back, and each further one is the first
+wires_back : (wires : List WireNo) (n m : ℕ) → n ≡ length wires → length wires ≤ m → take n (values_from (wire_or_first wires) 0 m) ≡ wires
+wires_back wires n m e few =
+    ap (λ n. take n (values_from (wire_or_first wires) 0 m)) e ∙ filled (wire_or_first wires) (first_of wires) wires 0 m (from_zero (wire_or_first wires)) few
+
+spare_wires_back : (wires : List WireNo) (n m : ℕ) → n ≡ length wires → length wires ≤ m → list_all (λ w. w.0 == (first_of (take n (values_from (wire_or_first wires) 0 m))).0) (drop n (values_from (wire_or_first wires) 0 m)) ≡ true
+spare_wires_back wires n m e few =
+    ap (λ ws. list_all (λ w. w.0 == (first_of ws).0) (drop n (values_from (wire_or_first wires) 0 m))) (wires_back wires n m e few)
+    ∙ ap (λ n. list_all (λ w. w.0 == (first_of wires).0) (drop n (values_from (wire_or_first wires) 0 m))) e
+    ∙ rest_filled (λ w. w.0 == (first_of wires).0) (wire_or_first wires) (first_of wires) wires 0 m (from_zero (wire_or_first wires)) (eq-eqb (first_of wires).0 (first_of wires).0 refl)
+
+-- likewise for numbers, where `f` keeps each
+numbers_back : (f : ℕ → ℤ) (numbers : List ℤ) (n m : ℕ) → ((p : ℕ) → f p ≡ number_or_zero numbers p) → n ≡ length numbers → length numbers ≤ m → take n (values_from f 0 m) ≡ numbers
+numbers_back f numbers n m keeps e few =
+    ap (λ n. take n (values_from f 0 m)) e ∙ filled f (pos 0) numbers 0 m (λ p. from_zero f p ∙ keeps p) few
+
+spare_numbers_back : (f : ℕ → ℤ) (numbers : List ℤ) (n m : ℕ) → ((p : ℕ) → f p ≡ number_or_zero numbers p) → n ≡ length numbers → list_all (λ k. int_eq k (pos 0)) (drop n (values_from f 0 m)) ≡ true
+spare_numbers_back f numbers n m keeps e =
+    ap (λ n. list_all (λ k. int_eq k (pos 0)) (drop n (values_from f 0 m))) e
+    ∙ rest_filled (λ k. int_eq k (pos 0)) f (pos 0) numbers 0 m (λ p. from_zero f p ∙ keeps p) refl
+
+full_arith : (op : ArithOp) (v : Types) (wires : List WireNo) (numbers : List ℤ) → IsFull (of (NamedArith op) v wires numbers) → IsBlockOf (of (NamedArith op) v wires numbers) (block_of (of (NamedArith op) v wires numbers))
+unfolding form_of block_of signature_of values_from
+full_arith op v wires numbers is =
+    let f : ℕ → ℤ = λ p. pos (unsigned_abs (number_or_zero numbers p)) in
+    let keeps = arith_naturals op numbers is.numbers in
+    let ranges = same_lengths in_range (arith_ranges op) numbers is.numbers in
+    let sorts = is.wires in
+    let types = few_arith_types op v in
+    let one = few_arith_ranges op in
+    let few : length wires ≤ 3 = omega (arith, sorts, types) in
+    let n = length (signature_of (NamedArith op) v).sorts in
+    record {
+      routine = refl;
+      types = refl;
+      back = ap₂ (of (NamedArith op) v) (wires_back wires n 3 sorts few) (numbers_back f numbers (length (arith_ranges op)) 1 keeps ranges (omega arith));
+      repeats = spare_wires_back wires n 3 sorts few;
+      adds = spare_numbers_back f numbers (length (arith_ranges op)) 1 keeps ranges;
+    }
+
+full_scaled : (op : ScaledOp) (v : Types) (wires : List WireNo) (numbers : List ℤ) → IsFull (of (NamedScaled op) v wires numbers) → IsBlockOf (of (NamedScaled op) v wires numbers) (block_of (of (NamedScaled op) v wires numbers))
+unfolding form_of block_of signature_of values_from
+full_scaled op v wires numbers is =
+    let none = same_lengths in_range [] numbers is.numbers in
+    let sorts = is.wires in
+    let types = few_scaled_types op v in
+    let few : length wires ≤ 2 = omega (arith, sorts, types) in
+    let n = length (signature_of (NamedScaled op) v).sorts in
+    record {
+      routine = refl;
+      types = refl;
+      back = ap₂ (of (NamedScaled op) v) (wires_back wires n 2 sorts few) (numbers_back (number_or_zero numbers) numbers 0 0 (λ p. refl) none (omega arith));
+      repeats = spare_wires_back wires n 2 sorts few;
+      adds = refl;
+    }
+
+full_form : (routine : Routine) (v : Types) (wires : List WireNo) (numbers : List ℤ) → IsFull (of routine v wires numbers) → IsBlockOf (of routine v wires numbers) (block_of (of routine v wires numbers))
+full_form (NamedArith op) v wires numbers is = full_arith op v wires numbers is
+full_form (NamedScaled op) v wires numbers is = full_scaled op v wires numbers is
+full_form other v wires numbers is = absurd (true≢false (sym is.built))
+
+-- the form of a full form's block is that form, and its spare places are the usual ones
+pub block_of_full : (form : Form) → IsFull form → IsBlockOf form (block_of form)
+block_of_full form is = full_form form.routine form.types form.wires form.numbers is
