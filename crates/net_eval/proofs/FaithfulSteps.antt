@@ -56,19 +56,28 @@ value_at-values_in cells k = get_or-map (λ (c : Cell ℤ). c.value) cells k (pl
 -- of the step of an item on wire i
 pub record IsFaithful (net : NetData) (i : ℕ) (item : Item) : Type 0 where
   -- it is ready, where the earlier values lie in their kinds
-  pub ready : (state : State) (inputs values : List ℤ) → length inputs ≡ length (inputs_of net.wires) → length values ≡ i → AreHeld net values i → MayKeep net i item state → IsReady (item_step net i item) state inputs values
+  pub ready : (state : State) (inputs values : List ℤ) → length inputs ≡ length (inputs_of net.wires) → length values ≡ i →
+      AreHeld net values i → MayKeep net i item state → IsReady (item_step net i item) state inputs values
   -- its value lies in the kind of the wire
-  pub held : (state : State) (inputs values : List ℤ) → AreTyped net inputs → MayKeep net i item state → IsInKind (wire_at net.wires i).kind (step_value (item_step net i item) state inputs values)
+  pub held : (state : State) (inputs values : List ℤ) → AreTyped net inputs → MayKeep net i item state →
+      IsInKind (wire_at net.wires i).kind (step_value (item_step net i item) state inputs values)
   -- it is that of the machine, where the earlier values are and the wire keeps what is to be kept
-  pub right : (state : State) (inputs : List ℤ) (rows : List (List ℤ)) (past : List (List (Cell ℤ))) (cells : List (Cell ℤ)) → state ≡ kept_by net rows past i item → step_value (item_step net i item) state inputs (values_in cells) ≡ (equation_of machine net (inputs ∷ rows) (cell_at machine (cells ∷ past)) i item).value
+  pub right : (state : State) (inputs : List ℤ) (rows : List (List ℤ)) (past : List (List (Cell ℤ))) (cells : List (Cell ℤ)) →
+      state ≡ kept_by net rows past i item →
+      step_value (item_step net i item) state inputs (values_in cells)
+      ≡ (equation_of machine net (inputs ∷ rows) (cell_at machine (cells ∷ past)) i item).value
 
 -- of what the wire keeps
 pub record IsKeptRight (net : NetData) (i : ℕ) (item : Item) : Type 0 where
   -- before the first row it keeps what is to be kept
   pub start : item_start net i item ≡ kept_by net [] [] i item
   -- and behind each row, where it does before it
-  pub next : (state : State) (inputs : List ℤ) (rows : List (List ℤ)) (past : List (List (Cell ℤ))) → state ≡ kept_by net rows past i item → state_behind (item_step net i item) state (values_in (row_of machine net (inputs ∷ rows) past i)) ≡ kept_by net (inputs ∷ rows) (row_of machine net (inputs ∷ rows) past (length net.wires) ∷ past) i item
+  pub next : (state : State) (inputs : List ℤ) (rows : List (List ℤ)) (past : List (List (Cell ℤ))) →
+      state ≡ kept_by net rows past i item →
+      state_behind (item_step net i item) state (values_in (row_of machine net (inputs ∷ rows) past i))
+      ≡ kept_by net (inputs ∷ rows) (row_of machine net (inputs ∷ rows) past (length net.wires) ∷ past) i item
   -- it may keep what it does before the first row
   pub may_start : MayKeep net i item (item_start net i item)
-  -- and behind each row
-  pub may_next : (state : State) (values : List ℤ) → length values ≡ i → AreHeld net values i → MayKeep net i item state → MayKeep net i item (state_behind (item_step net i item) state values)
+  -- and behind each row, where the earlier values lie in their kinds
+  pub may_next : (state : State) (values : List ℤ) → length values ≡ i → AreHeld net values i → MayKeep net i item state →
+      MayKeep net i item (state_behind (item_step net i item) state values)

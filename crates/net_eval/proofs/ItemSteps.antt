@@ -18,10 +18,18 @@ item_faithful net i (OfBlock (Scaled op v x y)) valid lt e = scaled_faithful net
 
 -- a wire that keeps nothing keeps it right
 item_kept : (net : NetData) (i : ℕ) (item : Item) → IsValid net → i < length net.wires → (wire_at net.wires i).item ≡ item → IsKeptRight net i item
-item_kept net i (Input lo hi) valid lt e =
-    record { start = refl; next = λ state inputs rows past kept. kept; may_start = refl; may_next = λ state values len held may. may }
-item_kept net i other valid lt e =
-    record { start = refl; next = λ state inputs rows past kept. kept; may_start = refl; may_next = λ state values len held may. may }
+item_kept net i (Input lo hi) valid lt e = record {
+  start = refl;
+  next = λ state inputs rows past kept. kept;
+  may_start = refl;
+  may_next = λ state values len held may. may;
+}
+item_kept net i other valid lt e = record {
+  start = refl;
+  next = λ state inputs rows past kept. kept;
+  may_start = refl;
+  may_next = λ state values len held may. may;
+}
 
 pub faithful : (net : NetData) (i : ℕ) → IsValid net → i < length net.wires → IsFaithful net i (wire_at net.wires i).item
 faithful net i valid lt = item_faithful net i (wire_at net.wires i).item valid lt refl

@@ -72,7 +72,8 @@ push_each xs x d P n len h here k lt =
 starts_kept : (net : NetData) → IsValid net → AreKept net (starts_of net (length net.wires))
 starts_kept net valid = record {
   one_each = length-starts_of net (length net.wires);
-  each = λ i lt. subst (MayKeep net i (wire_at net.wires i).item) (sym (state_at-starts_of net (length net.wires) i lt)) (kept_right net i valid lt).may_start;
+  each = λ i lt.
+      subst (MayKeep net i (wire_at net.wires i).item) (sym (state_at-starts_of net (length net.wires) i lt)) (kept_right net i valid lt).may_start;
 }
 
 pub planned_start : (net : NetData) (steps : List Step) (states : List State) → IsValid net → steps ≡ steps_of net (length net.wires) → states ≡ starts_of net (length net.wires) → ArePlanned net steps states
@@ -96,38 +97,60 @@ record IsGiven (net : NetData) (states : List State) (inputs : List ℤ) : Type 
 abbrev all_steps : NetData → List Step
 all_steps net = steps_of net (length net.wires)
 
+-- the values of the first n of them
+abbrev values_to : NetData → List State → List ℤ → ℕ → List ℤ
+values_to net states inputs n = values_of (all_steps net) states inputs n
+
+-- what all wires keep behind the row
+abbrev states_behind : NetData → List State → List ℤ → List State
+states_behind net states inputs = states_of (all_steps net) states inputs (length net.wires)
+
 step_of_all : (net : NetData) (i : ℕ) → i < length net.wires → step_at (all_steps net) i ≡ step_of net i
 step_of_all net i lt = step_at-steps_of net (length net.wires) i lt
 
+-- one of them
+state_of_all : (net : NetData) (states : List State) (inputs : List ℤ) (i : ℕ) → i < length net.wires → state_at (states_behind net states inputs) i ≡ state_behind (step_of net i) (state_at states i) (values_to net states inputs i)
+state_of_all net states inputs i lt =
+    state_at-states_of (all_steps net) states inputs (length net.wires) i lt
+    ∙ ap (λ s. state_behind s (state_at states i) (values_to net states inputs i)) (step_of_all net i lt)
+
 -- the values lie in their kinds
-values_held : (net : NetData) (states : List State) (inputs : List ℤ) (n : ℕ) → IsGiven net states inputs → n ≤ length net.wires → AreHeld net (values_of (all_steps net) states inputs n) n
+values_held : (net : NetData) (states : List State) (inputs : List ℤ) (n : ℕ) → IsGiven net states inputs → n ≤ length net.wires → AreHeld net (values_to net states inputs n) n
 unfolding values_of
 values_held net states inputs zero given le k lt = absurd (omega arith)
 values_held net states inputs (suc n) given le k lt =
-    push_each values _ (pos 0) (λ m v. IsInKind (wire_at net.wires m).kind v) n (length-values_of (all_steps net) states inputs n) (values_held net states inputs n given (omega arith)) here k lt
+    push_each values _ (pos 0) IsHeld n (length-values_of (all_steps net) states inputs n) (values_held net states inputs n given (omega arith)) here k lt
   where
     values : List ℤ
-    values = values_of (all_steps net) states inputs n
+    values = values_to net states inputs n
+
+    IsHeld : ℕ → ℤ → Type 0
+    IsHeld m v = IsInKind (wire_at net.wires m).kind v
 
     there : n < length net.wires
     there = omega arith
 
-    here : IsInKind (wire_at net.wires n).kind (step_value (step_at (all_steps net) n) (state_at states n) inputs values)
-    here = subst (λ s. IsInKind (wire_at net.wires n).kind (step_value s (state_at states n) inputs values)) (sym (step_of_all net n there)) ((faithful net n given.valid there).held (state_at states n) inputs values given.typed (given.kept.each n there))
+    here : IsHeld n (step_value (step_at (all_steps net) n) (state_at states n) inputs values)
+    here =
+        let held = (faithful net n given.valid there).held (state_at states n) inputs values given.typed (given.kept.each n there) in
+        subst (λ s. IsHeld n (step_value s (state_at states n) inputs values)) (sym (step_of_all net n there)) held
 
 -- each step is ready
 all_ready : (net : NetData) (states : List State) (inputs : List ℤ) → IsGiven net states inputs → length inputs ≡ length (inputs_of net.wires) → AreReady (all_steps net) states inputs
 all_ready net states inputs given one_each i below =
-    subst (λ s. IsReady s (state_at states i) inputs (values_of (all_steps net) states inputs i)) (sym (step_of_all net i lt)) ((faithful net i given.valid lt).ready (state_at states i) inputs _ one_each (length-values_of _ states inputs i) (values_held net states inputs i given (omega (arith, lt))) (given.kept.each i lt))
-  where
-    lt : i < length net.wires
-    lt = omega (arith, below, length-steps_of net (length net.wires))
+    let lt : i < length net.wires = omega (arith, below, length-steps_of net (length net.wires)) in
+    let held = values_held net states inputs i given (omega (arith, lt)) in
+    let ready = (faithful net i given.valid lt).ready (state_at states i) inputs _ one_each (length-values_of _ states inputs i) held (given.kept.each i lt) in
+    subst (λ s. IsReady s (state_at states i) inputs (values_to net states inputs i)) (sym (step_of_all net i lt)) ready
 
 -- what is kept behind the row may be kept
-all_kept : (net : NetData) (states : List State) (inputs : List ℤ) → IsGiven net states inputs → AreKept net (states_of (all_steps net) states inputs (length net.wires))
+all_kept : (net : NetData) (states : List State) (inputs : List ℤ) → IsGiven net states inputs → AreKept net (states_behind net states inputs)
 all_kept net states inputs given = record {
   one_each = length-states_of _ states inputs (length net.wires);
-  each = λ i lt. subst (MayKeep net i (wire_at net.wires i).item) (sym (state_at-states_of (all_steps net) states inputs (length net.wires) i lt ∙ ap (λ s. state_behind s (state_at states i) (values_of (all_steps net) states inputs i)) (step_of_all net i lt))) ((kept_right net i given.valid lt).may_next (state_at states i) _ (length-values_of _ states inputs i) (values_held net states inputs i given (omega (arith, lt))) (given.kept.each i lt));
+  each = λ i lt.
+      let held = values_held net states inputs i given (omega (arith, lt)) in
+      let may = (kept_right net i given.valid lt).may_next (state_at states i) _ (length-values_of _ states inputs i) held (given.kept.each i lt) in
+      subst (MayKeep net i (wire_at net.wires i).item) (sym (state_of_all net states inputs i lt)) may;
 }
 
 -- ---- the values are the row's
@@ -142,12 +165,13 @@ state_is net states rows past i before lt =
     ap (λ l. state_at l i) before.kept ∙ state_at-kept_of net rows past (length net.wires) i lt
 
 -- one more value is that of one more cell
-value_next : (net : NetData) (states : List State) (inputs : List ℤ) (rows : List (List ℤ)) (past : List (List (Cell ℤ))) (n : ℕ) → IsKeptBefore net states rows past → n < length net.wires → values_of (all_steps net) states inputs n ≡ values_in (row_of machine net (inputs ∷ rows) past n) → step_value (step_at (all_steps net) n) (state_at states n) inputs (values_of (all_steps net) states inputs n) ≡ (equation machine net (inputs ∷ rows) (cell_at machine (row_of machine net (inputs ∷ rows) past n ∷ past)) n).value
+value_next : (net : NetData) (states : List State) (inputs : List ℤ) (rows : List (List ℤ)) (past : List (List (Cell ℤ))) (n : ℕ) → IsKeptBefore net states rows past → n < length net.wires → values_to net states inputs n ≡ values_in (row_of machine net (inputs ∷ rows) past n) → step_value (step_at (all_steps net) n) (state_at states n) inputs (values_to net states inputs n) ≡ (equation machine net (inputs ∷ rows) (cell_at machine (row_of machine net (inputs ∷ rows) past n ∷ past)) n).value
 value_next net states inputs rows past n before lt earlier =
+    let kept = state_is net states rows past n before lt in
     ap₂ (λ s l. step_value s (state_at states n) inputs l) (step_of_all net n lt) earlier
-    ∙ (faithful net n before.valid lt).right (state_at states n) inputs rows past (row_of machine net (inputs ∷ rows) past n) (state_is net states rows past n before lt)
+    ∙ (faithful net n before.valid lt).right (state_at states n) inputs rows past (row_of machine net (inputs ∷ rows) past n) kept
 
-values_row : (net : NetData) (states : List State) (inputs : List ℤ) (rows : List (List ℤ)) (past : List (List (Cell ℤ))) (n : ℕ) → IsKeptBefore net states rows past → n ≤ length net.wires → values_of (all_steps net) states inputs n ≡ values_in (row_of machine net (inputs ∷ rows) past n)
+values_row : (net : NetData) (states : List State) (inputs : List ℤ) (rows : List (List ℤ)) (past : List (List (Cell ℤ))) (n : ℕ) → IsKeptBefore net states rows past → n ≤ length net.wires → values_to net states inputs n ≡ values_in (row_of machine net (inputs ∷ rows) past n)
 unfolding values_of row_of
 values_row net states inputs rows past zero before le = refl
 values_row net states inputs rows past (suc n) before le =
@@ -156,27 +180,44 @@ values_row net states inputs rows past (suc n) before le =
     ∙ sym (map-append (λ (c : Cell ℤ). c.value) (row_of machine net (inputs ∷ rows) past n) _)
 
 -- the states behind it are what is kept
-states_row : (net : NetData) (states : List State) (inputs : List ℤ) (rows : List (List ℤ)) → IsKeptBefore net states rows (table machine net rows) → IsAfter net (inputs ∷ rows) (states_of (all_steps net) states inputs (length net.wires))
+states_row : (net : NetData) (states : List State) (inputs : List ℤ) (rows : List (List ℤ)) → IsKeptBefore net states rows (table machine net rows) → IsAfter net (inputs ∷ rows) (states_behind net states inputs)
 unfolding states_of kept_of table
-states_row net states inputs rows before =
-    list_same (kept_behind (all_steps net) states inputs) (kept_on net (inputs ∷ rows) (table machine net (inputs ∷ rows))) (length net.wires) (λ i lt. ap₂ (λ s l. state_behind s (state_at states i) l) (step_of_all net i lt) (values_row net states inputs rows (table machine net rows) i before (omega (arith, lt))) ∙ (kept_right net i before.valid lt).next (state_at states i) inputs rows (table machine net rows) (state_is net states rows (table machine net rows) i before lt))
+states_row net states inputs rows before = list_same (kept_behind (all_steps net) states inputs) _ (length net.wires) each
+  where
+    past : List (List (Cell ℤ))
+    past = table machine net rows
+
+    row : List (Cell ℤ)
+    row = row_of machine net (inputs ∷ rows) past (length net.wires)
+
+    each : (i : ℕ) → i < length net.wires → kept_behind (all_steps net) states inputs i ≡ kept_on net (inputs ∷ rows) (row ∷ past) i
+    each i lt =
+        let earlier = values_row net states inputs rows past i before (omega (arith, lt)) in
+        let kept = state_is net states rows past i before lt in
+        ap₂ (λ s l. state_behind s (state_at states i) l) (step_of_all net i lt) earlier
+        ∙ (kept_right net i before.valid lt).next (state_at states i) inputs rows past kept
 
 -- the outputs that are read off the values
-outputs_row : (net : NetData) (states : List State) (inputs : List ℤ) (rows : List (List ℤ)) → IsKeptBefore net states rows (table machine net rows) → map (λ o. value_at (values_of (all_steps net) states inputs (length net.wires)) o.0) net.outs ≡ outputs_of net (inputs ∷ rows)
+outputs_row : (net : NetData) (states : List State) (inputs : List ℤ) (rows : List (List ℤ)) → IsKeptBefore net states rows (table machine net rows) → map (λ o. value_at (values_to net states inputs (length net.wires)) o.0) net.outs ≡ outputs_of net (inputs ∷ rows)
 unfolding outputs_of table
 outputs_row net states inputs rows before = ap (λ f. map f net.outs) same
   where
+    past : List (List (Cell ℤ))
+    past = table machine net rows
+
     cells : List (Cell ℤ)
-    cells = row_of machine net (inputs ∷ rows) (table machine net rows) (length net.wires)
+    cells = row_of machine net (inputs ∷ rows) past (length net.wires)
 
     read : WireNo → ℤ
-    read o = value_at (values_of (all_steps net) states inputs (length net.wires)) o.0
+    read o = value_at (values_to net states inputs (length net.wires)) o.0
 
     shown : WireNo → ℤ
     shown o = (get_or cells o.0 (plain machine (pos 0))).value
 
     each : (o : WireNo) → read o ≡ shown o
-    each o = ap (λ l. value_at l o.0) (values_row net states inputs rows (table machine net rows) (length net.wires) before (omega arith)) ∙ value_at-values_in cells o.0
+    each o =
+        ap (λ l. value_at l o.0) (values_row net states inputs rows past (length net.wires) before (omega arith))
+        ∙ value_at-values_in cells o.0
 
     same : read ≡ shown
     same = λ i o. each o i
@@ -188,7 +229,8 @@ length-steps net steps states p = ap length p.resolved ∙ length-steps_of net (
 
 pub steps_ready : (net : NetData) (steps : List Step) (states : List State) (inputs : List ℤ) → ArePlanned net steps states → length inputs ≡ length (inputs_of net.wires) → AreTyped net inputs → AreReady steps states inputs
 steps_ready net steps states inputs p one_each typed =
-    subst (λ l. AreReady l states inputs) (sym p.resolved) (all_ready net states inputs (record { valid = p.valid; kept = p.kept; typed = typed }) one_each)
+    let given : IsGiven net states inputs = record { valid = p.valid; kept = p.kept; typed = typed } in
+    subst (λ l. AreReady l states inputs) (sym p.resolved) (all_ready net states inputs given one_each)
 
 pub outs_there : (net : NetData) (steps : List Step) (states : List State) (inputs values : List ℤ) (outs : List WireNo) → ArePlanned net steps states → outs ≡ net.outs → values ≡ values_of steps states inputs (length steps) → AreBelow outs (length values)
 outs_there net steps states inputs values outs p named filled =
@@ -198,12 +240,13 @@ outs_there net steps states inputs values outs p named filled =
     long = ap length filled ∙ length-values_of steps states inputs (length steps) ∙ length-steps net steps states p
 
 -- the states of all steps are those of all wires
-full_states : (net : NetData) (steps : List Step) (states : List State) (inputs : List ℤ) → ArePlanned net steps states → states_of steps states inputs (length steps) ≡ states_of (all_steps net) states inputs (length net.wires)
+full_states : (net : NetData) (steps : List Step) (states : List State) (inputs : List ℤ) → ArePlanned net steps states → states_of steps states inputs (length steps) ≡ states_behind net states inputs
 full_states net steps states inputs p = ap₂ (λ l n. states_of l states inputs n) p.resolved (length-steps net steps states p)
 
 pub row_kept : (net : NetData) (steps : List Step) (states behind : List State) (inputs : List ℤ) → ArePlanned net steps states → AreTyped net inputs → behind ≡ states_of steps states inputs (length steps) → AreKept net behind
 row_kept net steps states behind inputs p typed e =
-    subst (AreKept net) (sym (e ∙ full_states net steps states inputs p)) (all_kept net states inputs (record { valid = p.valid; kept = p.kept; typed = typed }))
+    let given : IsGiven net states inputs = record { valid = p.valid; kept = p.kept; typed = typed } in
+    subst (AreKept net) (sym (e ∙ full_states net steps states inputs p)) (all_kept net states inputs given)
 
 pub row_after : (net : NetData) (steps : List Step) (states behind : List State) (inputs : List ℤ) (rows : List (List ℤ)) → ArePlanned net steps states → IsAfter net rows states → behind ≡ states_of steps states inputs (length steps) → IsAfter net (inputs ∷ rows) behind
 row_after net steps states behind inputs rows p after e =

@@ -5,4 +5,8 @@ use Rattle.net_eval.proofs.evaluator.Plan.reset.Goals as goal
 
 pub returns-clause-start : goal.returns-clause-start
 returns-clause-start c =
-    after_along c.args.self.now c.self.inside.net.now _ _ _ c.self.view_is (after_start c.self.inside.net.now _ c.self.invariant.0.valid (written_back c.restart.new.states c.self.inside.states.items c.self.inside.states.len (ap length c.restart.ensures ∙ length-starts_of _ _ ∙ omega (arith, c.self.inside.states.ok, c.self.invariant.0.kept.one_each)) ∙ c.restart.ensures))
+    let net = c.self.inside.net.now in
+    let states = c.self.inside.states in
+    let long = ap length c.restart.ensures ∙ length-starts_of net (length net.wires) ∙ omega (arith, states.ok, c.self.invariant.0.kept.one_each) in
+    let start = after_start net _ c.self.invariant.0.valid (written_back c.restart.new.states states.items states.len long ∙ c.restart.ensures) in
+    after_along c.args.self.now net states.items _ _ c.self.view_is start
