@@ -1,5 +1,5 @@
 -- What the steps make of a row is what the machine does: values, outputs, and what is kept behind it.
-use Rattle.std.proofs.Common.{◌≡◌, ℕ, zero, suc, ◌<◌, ◌≤◌, List, [], ◌∷◌, ◌++◌, map, length, get_or, ℤ, pos, refl, sym, ap, ap₂, ◌∙◌, subst, arith, inl, inr}
+use Rattle.std.proofs.Common.{◌≡◌, ℕ, zero, suc, ◌<◌, ◌≤◌, List, [], ◌∷◌, ◌++◌, map, length, drop, get_or, take, ℤ, pos, refl, sym, ap, ap₂, ◌∙◌, subst, arith, inl, inr}
 use Rattle.std.proofs.lemmas.Bool.{cases_eq}
 use Rattle.std.proofs.lemmas.List.{get_or_append_left, get_or_push, length_push, map-append}
 use Rattle.std.proofs.lemmas.List.FromFn.{length-map-range_with_len}
@@ -19,7 +19,7 @@ use Rattle.net_eval.specs.States.{AreKept, MayKeep, start_of, starts_of, state_a
 use Rattle.net_eval.specs.Steps.{ArePlanned, AreReady, IsReady, step_of, steps_of, step_at, step_value, state_behind, kept_behind, states_of, value_at, values_of}
 use Rattle.net_eval.specs.Picking.{AreBelow}
 use Rattle.net_eval.specs.Typing.{AreTyped}
-use Rattle.net_eval.proofs.Listings.{list_at, list_same}
+use Rattle.net_eval.proofs.Listings.{list_at, list_same, written_back}
 use Rattle.net_eval.proofs.StepFacts.{outs_below}
 use Rattle.net_eval.proofs.FaithfulSteps.{AreHeld, values_in, value_at-values_in}
 use Rattle.net_eval.proofs.ItemSteps.{faithful, kept_right}
@@ -34,7 +34,7 @@ step_at-steps_of : (net : NetData) (n k : ℕ) → k < n → step_at (steps_of n
 unfolding steps_of
 step_at-steps_of net n k lt = list_at (step_of net) n k (Read 0) lt
 
-pub length-starts_of : (net : NetData) (n : ℕ) → length (starts_of net n) ≡ n
+length-starts_of : (net : NetData) (n : ℕ) → length (starts_of net n) ≡ n
 unfolding starts_of
 length-starts_of net n = length-map-range_with_len (start_of net) 0 n
 
@@ -84,6 +84,11 @@ pub after_start : (net : NetData) (states : List State) → IsValid net → stat
 unfolding starts_of kept_of table
 after_start net states valid e =
     e ∙ list_same (start_of net) (kept_on net [] []) (length net.wires) (λ i lt. (kept_right net i valid lt).start)
+
+-- a plan's states that were put back
+pub put_back : (net : NetData) (old new : List State) (n : ℕ) → new ≡ starts_of net (length net.wires) → n ≡ length net.wires → take n (new ++ drop (length new) old) ≡ starts_of net (length net.wires)
+put_back net old new n e long =
+    written_back new old n (ap length e ∙ length-starts_of net (length net.wires) ∙ sym long) ∙ e
 
 -- ---- a row of a planned network
 
