@@ -7,7 +7,7 @@ use Rattle.text_words.specs.Lines.{nth}
 use Rattle.text_words.specs.Numbers.{number_of}
 use Rattle.net_model.specs.Wires.{NetData, parts_of}
 use Rattle.net_model.specs.Validity.{IsValid}
-use Rattle.net_model.proofs.ValidityFacts.{length-parts_of, length-valid}
+use Rattle.net_model.proofs.PartPlaces.{few_parts}
 use Rattle.text_words.specs.Steps.{◌>>=◌, demand}
 use Rattle.part_rules.specs.declared.bounds.Bounds.{Bounds}
 use Rattle.cert_rules.specs.Proper.{is_entry_number, is_proper_entry, first_improper}
@@ -37,8 +37,7 @@ ok_same x y h = cc
 -- entries for each part are few
 pub few_entries : (net : NetData) (entries : List Bounds) → IsValid net → length entries ≡ length (parts_of net.wires) → length entries < 2 ^ 32
 few_entries net entries valid e =
-    let few : length net.wires ≤ 512 = length-valid net valid in
-    omega (arith, few, e, length-parts_of net.wires)
+    omega (arith, few_parts net valid, e)
 
 -- ---- an entry of a line is proper
 

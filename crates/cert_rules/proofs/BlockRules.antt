@@ -14,9 +14,8 @@ use Rattle.fx_routines.specs.declared.operation.ScaledOp.{ScaledOp}
 use Rattle.fx_routines.specs.declared.operation.ScaledOp.TheVariants.{Convert}
 use Rattle.fx_routines.specs.declared.operation.Variant.{Variant}
 use Rattle.fx_core.specs.Arguments.{three, two}
-use Rattle.mfx_arith.specs.Operations.{argument_types, arith_arity, is_smooth_operation, unsigned_of}
+use Rattle.mfx_arith.specs.Operations.{is_smooth_operation, unsigned_of}
 use Rattle.mfx_scaled.specs.declared.binary_points.Points.{Points}
-use Rattle.mfx_scaled.specs.Operations.{argument_types as scaled_types, scaled_arity}
 use Rattle.net_model.specs.declared.wires.WireNo.{WireNo}
 use Rattle.net_model.specs.declared.wires.Kind.{Kind}
 use Rattle.net_model.specs.declared.wires.Block.{Block}
@@ -24,8 +23,10 @@ use Rattle.net_model.specs.declared.wires.Block.TheVariants.{Arith, Scaled}
 use Rattle.net_model.specs.declared.wires.Item.TheVariants.{Block as OfBlock}
 use Rattle.net_model.specs.declared.wires.Role.TheVariants.{Value}
 use Rattle.net_model.specs.declared.wires.Part.{Part}
-use Rattle.net_model.specs.Wires.{NetData, wire_at, argument_of, kind_least, kind_greatest}
-use Rattle.net_model.specs.Validity.{IsValid, types_read}
+use Rattle.net_model.specs.Wires.{NetData, wire_at, argument_of, kind_least, kind_greatest, point_of}
+use Rattle.net_model.specs.Signatures.{signature_of}
+use Rattle.net_model.specs.BlockForms.{form_of}
+use Rattle.net_model.specs.Validity.{IsValid}
 use Rattle.net_model.proofs.ValidityFacts.{arith-valid, number_kind}
 use Rattle.net_model.proofs.BuiltFacts.{shift_from_test}
 use Rattle.net_meaning.specs.Cells.{Cell, values_read as read_values}
@@ -33,7 +34,7 @@ use Rattle.net_meaning.specs.Blocks.{formula, state_formula, quotient_of, mode_o
 use Rattle.net_meaning.specs.Runs.{equation_of}
 use Rattle.part_rules.specs.declared.bounds.Bounds.{Bounds}
 use Rattle.part_rules.specs.Entries.{if_small}
-use Rattle.part_rules.specs.PartRules.{Reading, PartMeaning, KeepsRule, arguments_read, bounds_at, renamed, renamed_reading}
+use Rattle.part_rules.specs.PartRules.{Reading, PartMeaning, KeepsRule, bounds_at, read_now, renamed}
 use Rattle.part_rules.proofs.RuleLaws.{renamed_keeps, keeps_where_fit}
 use Rattle.mfx_rules.specs.ArithRules.{arith_bounds, arith_may_divide_by_zero}
 use Rattle.mfx_rules.specs.ScaledRules.{scaled_bounds, scaled_may_divide_by_zero}
@@ -43,50 +44,33 @@ use Rattle.mfx_rules.specs.OperationRules.{arith_rule, arith_meaning, FitOperati
 use Rattle.mfx_rules.proofs.KeptRules.{operations_keep_rules, forms_keep_rules}
 use Rattle.cert_rules.specs.Rules.{argument_part, block_rule, least_of_part}
 use Rattle.cert_rules.specs.declared.lookups.Given.{Given}
-use Rattle.cert_rules.specs.GivenBounds.{AreGiven, reading_at}
+use Rattle.cert_rules.specs.GivenBounds.{AreGiven, reading_at, value_part}
 use Rattle.cert_rules.proofs.AcceptanceLaws.{ruled_if_built}
 
 -- ---- what is read
 
--- the values of a block's arguments, at the same row
+-- the values of the wires that a block reads, at the same row
 abbrev pub values_read : Block → List (Reading Part)
-values_read b = map (renamed_reading (argument_part b)) (arguments_read 0 (length (types_read b)))
+values_read b = map (λ w. read_now (value_part w.0)) (form_of b).wires
 
-arith_count : (op : ArithOp) (v : Variant) → arith_arity op ≡ length (argument_types op v)
-arith_count Abs v = refl
-arith_count MulDiv v = refl
-arith_count Limit v = refl
-arith_count Min v = refl
-arith_count Max v = refl
-arith_count RateLimiter v = refl
-arith_count other v = refl
+arith_reads : (net : NetData) (kind : Kind) (op : ArithOp) (v : Variant) (x y z : WireNo) (sh : ℕ) → (block_rule net kind (Arith op v x y z sh) Value).reads ≡ values_read (Arith op v x y z sh)
+unfolding block_rule form_of signature_of
+arith_reads net kind Abs v x y z sh = refl
+arith_reads net kind MulDiv v x y z sh = refl
+arith_reads net kind Limit v x y z sh = refl
+arith_reads net kind Min v x y z sh = refl
+arith_reads net kind Max v x y z sh = refl
+arith_reads net kind RateLimiter v x y z sh = refl
+arith_reads net kind other v x y z sh = refl
 
-scaled_count : (op : ScaledOp) (v : Variant) → scaled_arity op ≡ length (scaled_types op v)
-scaled_count Convert v = refl
-scaled_count other v = refl
+scaled_reads : (net : NetData) (kind : Kind) (op : ScaledOp) (v : Variant) (x y : WireNo) → (block_rule net kind (Scaled op v x y) Value).reads ≡ values_read (Scaled op v x y)
+unfolding block_rule form_of signature_of
+scaled_reads net kind Convert v x y = refl
+scaled_reads net kind other v x y = refl
 
 pub block_reads : (net : NetData) (kind : Kind) (b : Block) → (block_rule net kind b Value).reads ≡ values_read b
-unfolding block_rule
-block_reads net kind (Arith op v x y z sh) = ap (λ n. map (renamed_reading (argument_part (Arith op v x y z sh))) (arguments_read 0 n)) (arith_count op v)
-block_reads net kind (Scaled op v x y) = ap (λ n. map (renamed_reading (argument_part (Scaled op v x y))) (arguments_read 0 n)) (scaled_count op v)
-
-few_arith : (op : ArithOp) (v : Variant) → length (argument_types op v) ≤ 3
-few_arith Abs v = omega arith
-few_arith MulDiv v = omega arith
-few_arith Limit v = omega arith
-few_arith Min v = omega arith
-few_arith Max v = omega arith
-few_arith RateLimiter v = omega arith
-few_arith other v = omega arith
-
-few_scaled : (op : ScaledOp) (v : Variant) → length (scaled_types op v) ≤ 3
-few_scaled Convert v = omega arith
-few_scaled other v = omega arith
-
--- a block has at most three arguments
-pub few_arguments : (b : Block) → length (types_read b) ≤ 3
-few_arguments (Arith op v x y z sh) = few_arith op v
-few_arguments (Scaled op v x y) = few_scaled op v
+block_reads net kind (Arith op v x y z sh) = arith_reads net kind op v x y z sh
+block_reads net kind (Scaled op v x y) = scaled_reads net kind op v x y
 
 -- ---- what a block's value means, and that it keeps its rule
 
@@ -181,3 +165,10 @@ pub arith_there : (net : NetData) (i : ℕ) (b : Block) (op : ArithOp) (v : Vari
 arith_there net i b op v x y z sh valid h is case =
     let good = arith-valid net i op v x y z sh valid h (is ∙ ap OfBlock case) in
     (ruled_if_built op good.built, shift_from_test op sh good.shift)
+
+-- a form's binary points, by their fields
+same_points : (a b c a' b' c' : ℕ) → a ≡ a' → b ≡ b' → c ≡ c' → ◌≡◌ {A = Points} (record { a = a; b = b; c = c }) (record { a = a'; b = b'; c = c' })
+same_points a b c a' b' c' p q r = ap₂ (λ (s t : ℕ). record { a = s; b = t; c = c }) p q ∙ ap (λ (t : ℕ). record { a = a'; b = b'; c = t }) r
+
+pub scaled_points : (net : NetData) (i : ℕ) (b : Block) (op : ScaledOp) (v : Variant) (x y : WireNo) (p q r : ℕ) → b ≡ Scaled op v x y → p ≡ point_of (wire_at net.wires x.0).kind → q ≡ point_of (wire_at net.wires y.0).kind → r ≡ point_of (wire_at net.wires i).kind → ◌≡◌ {A = Points} (record { a = p; b = q; c = r }) (points_of net (wire_at net.wires i).kind b)
+scaled_points net i b op v x y p q r case e f g = rw case (same_points _ _ _ _ _ _ e f g)

@@ -1,3 +1,4 @@
+pub mod Examples
 pub mod Readings
 pub mod EntryFacts
 pub mod Findings
@@ -7,4 +8,6 @@ pub mod ReadParts
 pub mod RuleFacts
 pub mod RuleSoundness
 pub mod AcceptedEntries
+pub mod TheoremProof
+pub mod ArgumentExamples
 pub mod ArgumentSearch

@@ -1,6 +1,6 @@
 -- What the rule of a part reads of a valid network: parts that stand earlier in the same row, and of the row before only such as
 -- hold 0 before the first.
-use Rattle.std.proofs.Common.{◌≡◌, ℕ, zero, suc, ◌+◌, ◌*◌, ◌<◌, Bool, true, false, List, [], ◌∷◌, map, length, pos, refl, sym, ap, ◌∙◌, subst, arith, add-zero, true≢false}
+use Rattle.std.proofs.Common.{◌≡◌, ℕ, zero, suc, ◌+◌, ◌*◌, ◌<◌, Bool, true, false, List, [], ◌∷◌, map, length, get_or, take, pos, refl, sym, ap, ◌∙◌, subst, arith, true≢false}
 use Rattle.std.specs.Prelude.{IsTrue, Some}
 use Rattle.net_model.specs.declared.wires.Block.{Block}
 use Rattle.net_model.specs.declared.wires.Item.{Item}
@@ -9,14 +9,17 @@ use Rattle.net_model.specs.declared.wires.Role.{Role}
 use Rattle.net_model.specs.declared.wires.Role.TheVariants.{Value}
 use Rattle.net_model.specs.declared.wires.Part.{Part}
 use Rattle.net_model.specs.Wires.{NetData, wire_at, argument_of}
-use Rattle.net_model.specs.Validity.{IsValid, types_read}
+use Rattle.net_model.specs.declared.wires.WireNo.{WireNo}
+use Rattle.net_model.specs.BlockForms.{first_of, form_of, held_by, signature_in}
+use Rattle.net_model.specs.Validity.{IsValid}
+use Rattle.std.proofs.lemmas.List.{length-map}
 use Rattle.net_model.proofs.ValidityFacts.{argument_of-valid}
 use Rattle.net_model.proofs.PartPlaces.{has_role-value, part_of}
-use Rattle.part_rules.specs.PartRules.{Reading, arguments_read, read_now, renamed_reading}
+use Rattle.part_rules.specs.PartRules.{Reading, read_now}
 use Rattle.cert_rules.specs.Rules.{argument_part, block_rule, item_rule, part_rule}
 use Rattle.cert_rules.specs.Certificates.{IsPart}
 use Rattle.cert_rules.specs.Acceptance.{start_of}
-use Rattle.cert_rules.specs.GivenBounds.{reading_at}
+use Rattle.cert_rules.specs.GivenBounds.{reading_at, value_part}
 use Rattle.cert_rules.proofs.BlockRules.{values_read, block_reads}
 
 -- ---- the order of parts: by wires, a wire's states before its value
@@ -38,13 +41,15 @@ pub record IsOrderly (net : NetData) (part : Part) (reading : Reading Part) : Ty
 
 -- ---- the arguments of a block
 
-argument_at : (f : ℕ → Part) (p n q : ℕ) → q < length (map (renamed_reading f) (arguments_read p n)) → reading_at (map (renamed_reading f) (arguments_read p n)) q ≡ read_now (f (p + q))
-argument_at f p zero q h = absurd (omega arith)
-argument_at f p (suc n) zero h = ap (λ k. read_now (f k)) (sym (add-zero p))
-argument_at f p (suc n) (suc q) h = let e : (p + 1) + q ≡ p + suc q = omega arith in argument_at f (p + 1) n q (omega arith) ∙ ap (λ k. read_now (f k)) e
+wire_among : (n : ℕ) (wires : List WireNo) (q : ℕ) (d : WireNo) → q < length (take n wires) → reading_at (map (λ w. read_now (value_part w.0)) (take n wires)) q ≡ read_now (value_part (get_or wires q d).0)
+wire_among zero wires q d h = absurd (omega arith)
+wire_among (suc n) [] q d h = absurd (omega arith)
+wire_among (suc n) (w ∷ wires) zero d h = refl
+wire_among (suc n) (w ∷ wires) (suc q) d h = wire_among n wires q d (omega arith)
 
 pub values_at : (b : Block) (q : ℕ) → q < length (values_read b) → reading_at (values_read b) q ≡ read_now (argument_part b q)
-values_at b q h = let e : 0 + q ≡ q = omega arith in argument_at (argument_part b) 0 (length (types_read b)) q h ∙ ap (λ k. read_now (argument_part b k)) e
+unfolding form_of
+values_at b q h = wire_among (length (signature_in (held_by b)).sorts) (held_by b).wires q (first_of (held_by b).wires) (omega (arith, h, length-map (take (length (signature_in (held_by b)).sorts) (held_by b).wires) (λ (w : WireNo). read_now (value_part w.0))))
 
 earlier_wire : (k i : ℕ) → k < i → k * 3 + 2 < i * 3 + 2
 earlier_wire k i h = omega arith

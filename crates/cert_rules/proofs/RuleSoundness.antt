@@ -24,7 +24,7 @@ use Rattle.part_rules.proofs.RuleLaws.{depends_on_reads}
 use Rattle.part_rules.proofs.Within.{itself_within}
 use Rattle.cert_rules.specs.Rules.{allowed_of, argument_part, block_rule, is_allowed, item_rule, part_rule, rule_of}
 use Rattle.cert_rules.specs.Certificates.{IsPart, entry_of, held_by}
-use Rattle.cert_rules.specs.Acceptance.{entry_at, is_allowed_entry, part_at}
+use Rattle.cert_rules.specs.Acceptance.{is_allowed_entry, part_at}
 use Rattle.cert_rules.specs.Arguments.{AgreeFor, RulesReadTheirArguments, is_read, is_read_ever, reads_ago, reads_at, reads_of, rows_ago, rule_by}
 use Rattle.cert_rules.specs.GivenBounds.{AreAllowedReads, reading_at}
 use Rattle.cert_rules.specs.Soundness.{IsGiven, KeepsBounds, RulesAreSound, raw_by}
@@ -158,7 +158,6 @@ rules_are_sound net valid entries p h allowed rows m e keeps given bounds rules 
         let reading = reading_at reads q in
         let number = has_number net reading.part (is_orderly net part valid there q l).there in
         let read = subst (λ t. IsTrue (is_read reads t (rows_ago reading))) (sym number.there) (read_there reads q l) in
-        let held = subst (λ (t : Part). IsWithin (entry_at entries number.number) (held_by t.role (m (rows_ago reading) t.wire.0)) (held_by t.role (e (rows_ago reading) t.wire.0))) number.there (given number.number (rows_ago reading) number.within read) in
-        rw (number.entry entries) held in
+        subst (λ (t : Part). IsWithin (entry_of net entries t) (held_by t.role (m (rows_ago reading) t.wire.0)) (held_by t.role (e (rows_ago reading) t.wire.0))) number.there (given number.number (rows_ago reading) number.within read) in
     let k = part_keeps net part.wire.0 part.role (entry_of net entries) rows m e bounds valid there.wire keeps fit within (rule_gift net part (entry_of net entries) bounds rules).is in
     record { machine_divides = k.machine_divides; exact_divides = k.exact_divides; within = k.within }

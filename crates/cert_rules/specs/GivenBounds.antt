@@ -1,10 +1,12 @@
 -- The bounds that a rule is given in code; for private functions' clauses alone.
-use Rattle.std.specs.Prelude.{◌≡◌, ℕ, ◌<◌, List, length, get_or, IsTrue}
+use Rattle.std.specs.Prelude.{◌≡◌, ℕ, ◌<◌, List, length, get_or, IsTrue, Option, Some, None}
+use Rattle.net_model.specs.declared.wires.WireNo.{WireNo}
 use Rattle.net_model.specs.declared.wires.Role.TheVariants.{Value}
 use Rattle.net_model.specs.declared.wires.Part.{Part}
 use Rattle.net_model.specs.Wires.{NetData, no_part}
 use Rattle.part_rules.specs.declared.bounds.Bounds.{Bounds}
 use Rattle.part_rules.specs.Entries.{IsSmall}
+use Rattle.part_rules.specs.Within.{no_bounds}
 use Rattle.part_rules.specs.PartRules.{Reading, bounds_at, read_now}
 use Rattle.cert_rules.specs.declared.lookups.Given.{Given}
 use Rattle.cert_rules.specs.Acceptance.{is_allowed_entry}
@@ -24,6 +26,11 @@ AreAllowedReads net reads entries =
     (q : ℕ) → q < length reads →
     IsPart net (reading_at reads q).part
     × IsTrue (is_allowed_entry net (reading_at reads q).part (entry_of net entries (reading_at reads q).part))
+
+-- the entry of a wire's value, where there is a wire
+abbrev pub entry_if : NetData → List Bounds → Option WireNo → Bounds
+entry_if net entries None = no_bounds
+entry_if net entries (Some w) = entry_of net entries (value_part w.0)
 
 -- these are the first three of the bounds that a rule is given; where there are fewer, they are no bounds
 pub record AreGiven (given : Given) (known : List Bounds) : Type 0 where

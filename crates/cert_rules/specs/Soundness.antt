@@ -15,7 +15,7 @@ use Rattle.net_meaning.specs.Promises.{KeepsRange, ItemDivides}
 use Rattle.part_rules.specs.declared.bounds.Bounds.{Bounds}
 use Rattle.part_rules.specs.Within.{IsWithin}
 use Rattle.cert_rules.specs.Certificates.{entry_of, held_by}
-use Rattle.cert_rules.specs.Acceptance.{entry_at, is_allowed_at, part_at}
+use Rattle.cert_rules.specs.Acceptance.{is_allowed_at, part_at}
 use Rattle.cert_rules.specs.Arguments.{reads_ago, reads_at, rule_by}
 
 -- what a cell has of a part of its wire before saturation
@@ -30,7 +30,7 @@ wire_of net p = wire_at net.wires (part_at net p).wire.0
 abbrev pub IsHeld : NetData → List Bounds → ℕ → (ℕ → Cell ℤ) → (ℕ → Cell Fraction) → Type 0
 IsHeld net entries k m e =
     let part = part_at net k in
-    IsWithin (entry_at entries k) (held_by part.role (m part.wire.0)) (held_by part.role (e part.wire.0))
+    IsWithin (entry_of net entries part) (held_by part.role (m part.wire.0)) (held_by part.role (e part.wire.0))
 
 -- each part that the rule of part number p reads is within its entry, at each row of which the rule reads it
 abbrev pub IsGiven : NetData → List Bounds → ℕ → (ℕ → ℕ → Cell ℤ) → (ℕ → ℕ → Cell Fraction) → Type 0

@@ -1,15 +1,14 @@
 // Which parts the rule of a part reads.
 
-ghost use Rattle.std.specs.Prelude.{◌≡◌, ◌<◌, ◌&&◌, is_some, length, slice_get};
+ghost use Rattle.std.specs.Prelude.{◌≡◌, ◌<◌, ◌==◌, length, slice_get};
+ghost use Rattle.std.specs.List.{list_any};
 ghost use Rattle.net_model.specs.declared.wires.Kind.{Kind};
-ghost use Rattle.net_model.specs.Wires.{NetData, is_part, parts_of, same_role};
+ghost use Rattle.net_model.specs.Wires.{NetData, parts_of, same_role};
 ghost use Rattle.cert_rules.specs.Arguments.{RulesReadTheirArguments, is_read_ever, read_by, reads_at};
-ghost use Rattle.cert_rules.specs.GivenBounds.{value_part};
 ghost use Rattle.cert_rules.specs.Rules.{block_rule, item_rule};
 
 use crate::lookups::{item_at, part_numbered};
-use fx_core::Ty;
-use net_model::{Block, Item, Network, Part, PartNo, Role, WireNo, arguments_of, types_read};
+use net_model::{Block, Item, Network, Part, PartNo, Role, WireNo, form_of};
 
 /// The part of number `i`, from 0, among those whose bounds a part's rule reads, in the order of the network
 /// and each once: None where the rule reads no more than `i`.
@@ -63,22 +62,18 @@ fn value_reads(item: Item, other: Part) -> bool
     }
 }
 
-/// The same of a block's value: it reads the value of each argument that the block has.
+/// The same of a block's value: it reads the value of each wire that the block reads.
 fn block_reads(block: &Block, other: Part) -> bool
     ensures { (net : NetData) (kind : Kind) → result ≡ is_read_ever (block_rule net kind block.now Role.Value).reads other }
 {
-    let types = types_read(*block);
-    let arguments = arguments_of(*block);
-    is_argument(types.x, arguments.x, other)
-        || is_argument(types.y, arguments.y, other)
-        || is_argument(types.z, arguments.z, other)
+    let form = form_of(*block);
+    same_role(Role::Value, other.role) && is_among(form.wires.as_slice(), other.wire)
 }
 
-/// Whether a part is the value of an argument that the block has.
-fn is_argument(ty: Option<Ty>, argument: WireNo, other: Part) -> bool
-    ensures { result ≡ (is_some ty && is_part other.wire.0 other.role (value_part argument.0)) }
+fn is_among(wires: &[WireNo], wire: WireNo) -> bool
+    ensures { result ≡ list_any (λ w. w.0 == wire.0) wires.now }
 {
-    ty.is_some() && argument.0 == other.wire.0 && same_role(Role::Value, other.role)
+    wires.iter().any(|other| other.0 == wire.0)
 }
 
 fn same_role(one: Role, other: Role) -> bool

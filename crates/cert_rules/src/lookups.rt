@@ -1,18 +1,16 @@
 // What the rules read of a network and of a certificate's entries.
 
-ghost use Rattle.std.specs.Prelude.{◌≡◌, ◌<◌, ◌≤◌, is_some, length, if◌then◌else◌};
-ghost use Rattle.net_model.specs.Wires.{parts_of, point_of, wire_at};
+ghost use Rattle.std.specs.Prelude.{◌≡◌, ◌<◌, ◌≤◌, IfSome, length, slice_get};
+ghost use Rattle.net_model.specs.Wires.{parts_of, place_in, point_of, wire_at};
 ghost use Rattle.net_model.specs.Validity.{IsValid};
 ghost use Rattle.part_rules.specs.PartRules.{bounds_read};
-ghost use Rattle.part_rules.specs.Within.{no_bounds};
 ghost use Rattle.cert_rules.specs.Acceptance.{part_at};
 ghost use Rattle.cert_rules.specs.Certificates.{entry_of};
-ghost use Rattle.cert_rules.specs.GivenBounds.{AreAllowedReads, AreGiven, AreSmall, value_part};
+ghost use Rattle.cert_rules.specs.GivenBounds.{AreAllowedReads, AreGiven, AreSmall, entry_if, value_part};
 ghost use Rattle.cert_rules.specs.Rules.{block_rule};
 
 use part_rules::Bounds;
-use fx_core::Ty;
-use net_model::{Block, Item, Kind, Network, Part, PartNo, Role, WireNo, arguments_of, types_read};
+use net_model::{Block, Item, Kind, Network, Part, PartNo, Role, WireNo, form_of};
 
 /// What stands for bounds where there are none.
 const NO_BOUNDS: Bounds = Bounds {
@@ -79,11 +77,11 @@ pub(crate) fn given_to(net: &Network, wire: WireNo, block: &Block, all: &[Bounds
         AreGiven result (bounds_read reads (entry_of net.now all.now)) }
     ensures small { AreSmall result }
 {
-    let types = types_read(*block);
-    let arguments = arguments_of(*block);
-    let first = entry_if(types.x, net, arguments.x, all);
-    let second = entry_if(types.y, net, arguments.y, all);
-    let third = entry_if(types.z, net, arguments.z, all);
+    let form = form_of(*block);
+    let wires = form.wires.as_slice();
+    let first = entry_if(wire_of(wires, 0), net, all);
+    let second = entry_if(wire_of(wires, 1), net, all);
+    let third = entry_if(wire_of(wires, 2), net, all);
     Given {
         first,
         second,
@@ -91,14 +89,23 @@ pub(crate) fn given_to(net: &Network, wire: WireNo, block: &Block, all: &[Bounds
     }
 }
 
-/// The entry of an argument's value; no bounds where the block doesn't have the argument.
-fn entry_if(ty: Option<Ty>, net: &Network, argument: WireNo, all: &[Bounds]) -> Bounds
-    requires there { argument.0 < length net.now.wires }
-    requires complete { length all.now ≡ length (parts_of net.now.wires) }
-    ensures { result ≡ (if is_some ty then entry_of net.now all.now (value_part argument.0) else no_bounds) }
+fn wire_of(wires: &[WireNo], place: usize) -> Option<WireNo>
+    ensures { result ≡ slice_get wires.now place }
 {
-    match ty {
-        Some(_) => value_entry(net, argument, all),
+    match wires.get(place) {
+        Some(wire) => Some(*wire),
+        None => None,
+    }
+}
+
+/// The entry of a wire's value, where there is a wire, else no bounds.
+fn entry_if(wire: Option<WireNo>, net: &Network, all: &[Bounds]) -> Bounds
+    requires there { IfSome wire (λ w. w.0 < length net.now.wires) }
+    requires complete { length all.now ≡ length (parts_of net.now.wires) }
+    ensures { result ≡ entry_if net.now all.now wire }
+{
+    match wire {
+        Some(wire) => value_entry(net, wire, all),
         None => NO_BOUNDS,
     }
 }
@@ -109,8 +116,18 @@ fn value_entry(net: &Network, wire: WireNo, entries: &[Bounds]) -> Bounds
     requires complete { length entries.now ≡ length (parts_of net.now.wires) }
     ensures { result ≡ entry_of net.now entries.now (value_part wire.0) }
 {
+    let part = value_number(net, wire);
+    entries[part.0 as usize]
+}
+
+/// The number of a wire's value among the parts.
+fn value_number(net: &Network, wire: WireNo) -> PartNo
+    requires { wire.0 < length net.now.wires }
+    ensures number { result.0 ≡ place_in wire.0 Role.Value (parts_of net.now.wires) }
+    ensures there { result.0 < length (parts_of net.now.wires) }
+{
     match net.part_of(wire, Role::Value) {
-        Some(part) => entries[part.0 as usize],
+        Some(part) => part,
         None => unreachable!(),
     }
 }

@@ -4,10 +4,8 @@ ghost use Rattle.std.specs.Prelude.{◌≡◌, ◌<◌, List, None, if◌then◌
 ghost use Rattle.part_rules.specs.declared.bounds.Bounds.{Bounds};
 ghost use Rattle.net_model.specs.Wires.{parts_of, wire_at};
 ghost use Rattle.net_model.specs.Validity.{IsValid};
-ghost use Rattle.net_meaning.specs.Blocks.{points_of};
 ghost use Rattle.part_rules.specs.Entries.{IsSmall, if_small};
 ghost use Rattle.part_rules.specs.PartRules.{bounds_read, given_by};
-ghost use Rattle.mfx_rules.specs.ScaledCorners.{AreLow};
 ghost use Rattle.cert_rules.specs.Acceptance.{part_at};
 ghost use Rattle.cert_rules.specs.Arguments.{rule_by};
 ghost use Rattle.cert_rules.specs.Certificates.{entry_of};
@@ -19,7 +17,7 @@ use crate::limits::allowed;
 use crate::lookups::{Given, given_to, item_at, part_numbered, point_at};
 use mfx_rules::{form_bounds, operation_bounds};
 use mfx_scaled::Points;
-use net_model::{Block, Item, Network, PartNo, Role, WireNo, arguments_of};
+use net_model::{Block, Item, Network, PartNo, Role, WireNo};
 use part_rules::Bounds;
 
 /// The bounds of a part by its rule, from an entry for each part, of which those that the rule reads are
@@ -88,22 +86,13 @@ fn block_bounds(net: &Network, wire: WireNo, block: &Block, given: Given) -> Opt
     } = given;
     match *block {
         Block::Arith { op, sh, .. } => operation_bounds(op, sh, first, second, third),
-        Block::Scaled { op, .. } => form_bounds(op, points_of(net, wire, *block), first, second),
-    }
-}
-
-/// The binary points of a block's arguments and of its wire.
-fn points_of(net: &Network, wire: WireNo, block: Block) -> Points
-    requires valid { IsValid net.now }
-    requires there { wire.0 < length net.now.wires }
-    requires block { (wire_at net.now.wires wire.0).item ≡ Item.Block block }
-    ensures points { result ≡ points_of net.now (wire_at net.now.wires wire.0).kind block }
-    ensures low { AreLow result }
-{
-    let arguments = arguments_of(block);
-    Points {
-        a: point_at(net, arguments.x),
-        b: point_at(net, arguments.y),
-        c: point_at(net, wire),
+        Block::Scaled { op, x, y, .. } => {
+            let points = Points {
+                a: point_at(net, x),
+                b: point_at(net, y),
+                c: point_at(net, wire),
+            };
+            form_bounds(op, points, first, second)
+        }
     }
 }

@@ -1,30 +1,33 @@
-use Rattle.std.proofs.Common.{rules, ◌≡◌, ◌<◌, ◌≤◌, is_some, length, if◌then◌else◌, ℕ, ◌+◌, ◌-◌, ◌*◌, ◌/◌, ◌%◌, Bool, true, false, nat_eq, nat_lt, List, [], ◌∷◌, ◌++◌, slice_index_or, slice_set, bit_and, bit_or, Fits, w8, w32, w64, Bor, MutBor}
-use Rattle.net_model.specs.Wires.{parts_of, point_of, wire_at}
-use Rattle.net_model.specs.Validity.{IsValid}
-use Rattle.part_rules.specs.PartRules.{bounds_read}
-use Rattle.part_rules.specs.Within.{no_bounds}
-use Rattle.cert_rules.specs.Acceptance.{part_at}
-use Rattle.cert_rules.specs.Certificates.{entry_of}
-use Rattle.cert_rules.specs.GivenBounds.{AreAllowedReads, AreGiven, AreSmall, value_part}
-use Rattle.cert_rules.specs.Rules.{block_rule}
+use Rattle.net_model.specs.Wires.{wire_at}
+use Rattle.cert_rules.proofs.RuleFacts.{given_is, given_small, wire_from, wire_there}
 use Rattle.cert_rules.proofs.lookups.given_to.Goals as goal
 
--- src/lookups.rt:84:9
 pub entry_if-first-requires-clause-there : goal.entry_if-first-requires-clause-there
-entry_if-first-requires-clause-there c = ?
+entry_if-first-requires-clause-there c =
+    wire_there c.args.net.now (wire_at c.args.net.now.wires c.args.wire.0).kind c.args.block.now c.args.all.now 0 _ c.requires.allowed (wire_from c.args.block.now c.form_of-form.result c.as_slice-wires.result.now 0 _ c.form_of-form.ensures c.as_slice-wires.ensures.items c.wire_of.ensures)
 
--- src/lookups.rt:85:9
 pub entry_if-second-requires-clause-there : goal.entry_if-second-requires-clause-there
-entry_if-second-requires-clause-there c = ?
+entry_if-second-requires-clause-there c =
+    wire_there c.args.net.now (wire_at c.args.net.now.wires c.args.wire.0).kind c.args.block.now c.args.all.now 1 _ c.requires.allowed (wire_from c.args.block.now c.form_of-form.result c.as_slice-wires.result.now 1 _ c.form_of-form.ensures c.as_slice-wires.ensures.items c.wire_of-2.ensures)
 
--- src/lookups.rt:86:9
 pub entry_if-third-requires-clause-there : goal.entry_if-third-requires-clause-there
-entry_if-third-requires-clause-there c = ?
+entry_if-third-requires-clause-there c =
+    wire_there c.args.net.now (wire_at c.args.net.now.wires c.args.wire.0).kind c.args.block.now c.args.all.now 2 _ c.requires.allowed (wire_from c.args.block.now c.form_of-form.result c.as_slice-wires.result.now 2 _ c.form_of-form.ensures c.as_slice-wires.ensures.items c.wire_of-3.ensures)
 
--- src/lookups.rt:72:1
 pub returns-clause-given : goal.returns-clause-given
-returns-clause-given c = ?
+returns-clause-given c =
+    let kind = (wire_at c.args.net.now.wires c.args.wire.0).kind in
+    record {
+      first = given_is c.args.net.now kind c.args.block.now c.args.all.now 0 _ _ (wire_from c.args.block.now c.form_of-form.result c.as_slice-wires.result.now 0 _ c.form_of-form.ensures c.as_slice-wires.ensures.items c.wire_of.ensures) c.entry_if-first.ensures;
+      second = given_is c.args.net.now kind c.args.block.now c.args.all.now 1 _ _ (wire_from c.args.block.now c.form_of-form.result c.as_slice-wires.result.now 1 _ c.form_of-form.ensures c.as_slice-wires.ensures.items c.wire_of-2.ensures) c.entry_if-second.ensures;
+      third = given_is c.args.net.now kind c.args.block.now c.args.all.now 2 _ _ (wire_from c.args.block.now c.form_of-form.result c.as_slice-wires.result.now 2 _ c.form_of-form.ensures c.as_slice-wires.ensures.items c.wire_of-3.ensures) c.entry_if-third.ensures;
+    }
 
--- src/lookups.rt:72:1
 pub returns-clause-small : goal.returns-clause-small
-returns-clause-small c = ?
+returns-clause-small c =
+    let kind = (wire_at c.args.net.now.wires c.args.wire.0).kind in
+    record {
+      first = given_small c.args.net.now kind c.args.block.now c.args.all.now 0 _ _ c.requires.allowed (wire_from c.args.block.now c.form_of-form.result c.as_slice-wires.result.now 0 _ c.form_of-form.ensures c.as_slice-wires.ensures.items c.wire_of.ensures) c.entry_if-first.ensures;
+      second = given_small c.args.net.now kind c.args.block.now c.args.all.now 1 _ _ c.requires.allowed (wire_from c.args.block.now c.form_of-form.result c.as_slice-wires.result.now 1 _ c.form_of-form.ensures c.as_slice-wires.ensures.items c.wire_of-2.ensures) c.entry_if-second.ensures;
+      third = given_small c.args.net.now kind c.args.block.now c.args.all.now 2 _ _ c.requires.allowed (wire_from c.args.block.now c.form_of-form.result c.as_slice-wires.result.now 2 _ c.form_of-form.ensures c.as_slice-wires.ensures.items c.wire_of-3.ensures) c.entry_if-third.ensures;
+    }

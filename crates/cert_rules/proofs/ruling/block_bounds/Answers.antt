@@ -1,31 +1,29 @@
-use Rattle.std.proofs.Common.{rules, ◌≡◌, ◌<◌, List, None, if◌then◌else◌, length, ℕ, ◌+◌, ◌-◌, ◌*◌, ◌≤◌, ◌/◌, ◌%◌, Bool, true, false, nat_eq, nat_lt, [], ◌∷◌, ◌++◌, slice_index_or, slice_set, bit_and, bit_or, Fits, w8, w32, w64, Bor, MutBor}
-use Rattle.part_rules.specs.declared.bounds.Bounds.{Bounds}
-use Rattle.net_model.specs.Wires.{parts_of, wire_at}
-use Rattle.net_model.specs.Validity.{IsValid}
-use Rattle.net_meaning.specs.Blocks.{points_of}
-use Rattle.part_rules.specs.Entries.{IsSmall, if_small}
-use Rattle.part_rules.specs.PartRules.{bounds_read, given_by}
-use Rattle.mfx_rules.specs.ScaledCorners.{AreLow}
-use Rattle.cert_rules.specs.Acceptance.{part_at}
-use Rattle.cert_rules.specs.Arguments.{rule_by}
-use Rattle.cert_rules.specs.Certificates.{entry_of}
-use Rattle.cert_rules.specs.GivenBounds.{AreAllowedReads, AreGiven, AreSmall, value_part}
-use Rattle.cert_rules.specs.Rules.{allowed_of, block_rule, part_rule}
-use Rattle.cert_rules.specs.Soundness.{AreAllowedFor}
+use Rattle.std.proofs.Common.{ap, sym}
+use Rattle.net_model.specs.Wires.{argument_of, wire_at}
+use Rattle.cert_rules.proofs.BlockRules.{arith_returns, arith_there, scaled_points, scaled_returns}
+use Rattle.cert_rules.proofs.RuleFacts.{argument_there}
 use Rattle.cert_rules.proofs.ruling.block_bounds.Goals as goal
 
--- src/ruling.rt:90:40
 pub operation_bounds-requires-clause-rule : goal.operation_bounds-requires-clause-rule
-operation_bounds-requires-clause-rule c = ?
+operation_bounds-requires-clause-rule c =
+    (arith_there c.args.net.now c.args.wire.0 c.args.block.now _ _ _ _ _ _ c.requires.valid c.requires.there c.requires.block c.in-Arith.is).0
 
--- src/ruling.rt:90:40
 pub operation_bounds-requires-clause-shift : goal.operation_bounds-requires-clause-shift
-operation_bounds-requires-clause-shift c = ?
+operation_bounds-requires-clause-shift c =
+    (arith_there c.args.net.now c.args.wire.0 c.args.block.now _ _ _ _ _ _ c.requires.valid c.requires.there c.requires.block c.in-Arith.is).1
 
--- src/ruling.rt:75:1
+pub point_at-requires-clause-there : goal.point_at-requires-clause-there
+point_at-requires-clause-there c =
+    argument_there c.args.net.now c.args.wire.0 c.args.block.now 0 _ c.requires.valid c.requires.there c.requires.block (sym (ap (λ b. argument_of b 0) c.in-Scaled.is))
+
+pub point_at-requires-in-Scaled-clause-there : goal.point_at-requires-in-Scaled-clause-there
+point_at-requires-in-Scaled-clause-there c =
+    argument_there c.args.net.now c.args.wire.0 c.args.block.now 1 _ c.requires.valid c.requires.there c.requires.block (sym (ap (λ b. argument_of b 1) c.in-Scaled.is))
+
 pub returns-in-Arith : goal.returns-in-Arith
-returns-in-Arith c = ?
+returns-in-Arith c = λ known given.
+    arith_returns c.args.net.now (wire_at c.args.net.now.wires c.args.wire.0).kind c.args.block.now _ _ _ _ _ _ c.args.given known _ c.in-Arith.is (arith_there c.args.net.now c.args.wire.0 c.args.block.now _ _ _ _ _ _ c.requires.valid c.requires.there c.requires.block c.in-Arith.is).0 given c.operation_bounds.ensures
 
--- src/ruling.rt:75:1
 pub returns-in-Scaled : goal.returns-in-Scaled
-returns-in-Scaled c = ?
+returns-in-Scaled c = λ known given.
+    scaled_returns c.args.net.now (wire_at c.args.net.now.wires c.args.wire.0).kind c.args.block.now _ _ _ _ _ c.args.given known _ c.in-Scaled.is (scaled_points c.args.net.now c.args.wire.0 c.args.block.now _ _ _ _ _ _ _ c.in-Scaled.is c.point_at.ensures.point c.point_at-in-Scaled.ensures.point c.point_at-in-Scaled-2.ensures.point) given c.form_bounds.ensures
