@@ -13,6 +13,8 @@ use Rattle.net_model.specs.declared.wires.Item.{Item}
 use Rattle.net_model.specs.declared.wires.Item.TheVariants.{Input, Const, Block as OfBlock}
 use Rattle.net_model.specs.Wires.{NetData, wire_at, parts_of}
 use Rattle.net_model.specs.Validity.{IsValid}
+use Rattle.net_model.specs.Signatures.{signature_of}
+use Rattle.net_model.specs.BlockForms.{form_of}
 use Rattle.net_model.specs.Smooth.{is_smooth, IsSmooth}
 use Rattle.net_model.proofs.ValidityFacts.{arith-valid}
 use Rattle.mfx_arith.specs.Operations.{is_smooth_operation}
@@ -90,10 +92,12 @@ ruled_if_built Mod h = absurd (false≢true h)
 ruled_if_built other h = refl
 
 smooth_with_rule : (op : ArithOp) (v : Variant) (x y z : WireNo) (sh : ℕ) → is_smooth_operation op ≡ true → IsTrue (is_smooth (OfBlock (Arith op v x y z sh)))
+unfolding form_of signature_of
 smooth_with_rule Mod v x y z sh h = absurd (false≢true h)
 smooth_with_rule other v x y z sh h = refl
 
 smooth_item : (net : NetData) (i : ℕ) (item : Item) → IsValid net → i < length net.wires → (wire_at net.wires i).item ≡ item → IsTrue (is_smooth item)
+unfolding form_of signature_of
 smooth_item net i (Input lo hi) valid h e = refl
 smooth_item net i (Const value) valid h e = refl
 smooth_item net i (OfBlock (Arith op v x y z sh)) valid h e = smooth_with_rule op v x y z sh (ruled_if_built op (arith-valid net i op v x y z sh valid h e).built)
