@@ -1,13 +1,22 @@
 -- How the part of a number among those that a rule reads is found, one part at a time.
-use Rattle.std.proofs.Common.{◌≡◌, ℕ, suc, ◌+◌, ◌-◌, ◌<◌, ◌≤◌, Bool, true, false, cond, List, ◌∷◌, length, slice_get, refl, sym, ap, ◌∙◌, subst, arith, Option, Some, None, Fits, w32, Fits-le}
+use Rattle.std.proofs.Common.{◌≡◌, ℕ, suc, ◌+◌, ◌-◌, ◌<◌, ◌≤◌, Bool, true, false, ◌&&◌, ◌||◌, cond, List, [], ◌∷◌, map, length, slice_get, refl, sym, ap, ◌∙◌, subst, arith, Option, Some, None, Fits, w32, Fits-le}
+use Rattle.std.specs.Prelude.{is_some}
+use Rattle.fx_core.specs.declared.word_type.Ty.{Ty}
 use Rattle.net_model.specs.declared.wires.PartNo.{PartNo}
+use Rattle.net_model.specs.declared.wires.Kind.{Kind}
+use Rattle.net_model.specs.declared.wires.Block.{Block}
 use Rattle.net_model.specs.declared.wires.Item.{Item}
+use Rattle.net_model.specs.declared.wires.Role.TheVariants.{Value}
 use Rattle.net_model.specs.declared.wires.Part.{Part}
 use Rattle.net_model.specs.declared.wires.Wire.{Wire}
-use Rattle.net_model.specs.Wires.{NetData, wire_at, parts_of}
-use Rattle.net_model.specs.Validity.{IsValid}
+use Rattle.net_model.specs.Wires.{NetData, wire_at, argument_of, is_part, parts_of}
+use Rattle.net_model.specs.Validity.{IsValid, type_read, types_read}
+use Rattle.part_rules.specs.PartRules.{arguments_read, renamed_reading}
+use Rattle.cert_rules.specs.Rules.{argument_part, block_rule, item_rule, part_rule}
 use Rattle.cert_rules.specs.Acceptance.{part_at}
-use Rattle.cert_rules.specs.Arguments.{passing, reads, reads_at}
+use Rattle.cert_rules.specs.Arguments.{is_read_ever, passing, reads_at}
+use Rattle.cert_rules.specs.GivenBounds.{value_part}
+use Rattle.cert_rules.proofs.BlockRules.{block_reads, few_arguments}
 use Rattle.cert_rules.proofs.Findings.{count_fits}
 
 -- ---- one step of the search
@@ -67,7 +76,38 @@ number_fits net k parts valid e h =
 
 -- ---- the test of one part
 
-pub reads_at-is : (net : NetData) (p k : ℕ) (part other : Part) (item : Item) (r : Bool) → part ≡ part_at net p → item ≡ (wire_at net.wires part.wire.0).item → other ≡ part_at net k → ((ruled : Part) → r ≡ reads item ruled other) → r ≡ reads_at net p k
+pub reads_at-is : (net : NetData) (p k : ℕ) (part other : Part) (item : Item) (r : Bool) → part ≡ part_at net p → item ≡ (wire_at net.wires part.wire.0).item → other ≡ part_at net k → ((net : NetData) (kind : Kind) → r ≡ is_read_ever (item_rule net kind item part.role).reads other) → r ≡ reads_at net p k
 unfolding reads_at
 reads_at-is net p k part other item r e f g is =
-    is part ∙ ap (λ (t : Item). reads t part other) f ∙ ap (λ (t : Part). reads (wire_at net.wires t.wire.0).item t other) e ∙ ap (reads (wire_at net.wires (part_at net p).wire.0).item (part_at net p)) g
+    is net (wire_at net.wires part.wire.0).kind
+    ∙ ap (λ (t : Item). is_read_ever (item_rule net (wire_at net.wires part.wire.0).kind t part.role).reads other) f
+    ∙ ap (λ (t : Part). is_read_ever (part_rule net t).reads other) e
+    ∙ ap (is_read_ever (part_rule net (part_at net p)).reads) g
+
+-- ---- the arguments of a block
+
+or_none : (a : Bool) → (a || false) ≡ a
+or_none true = refl
+or_none false = refl
+
+or_two : (a b : Bool) → (a || (b || false)) ≡ ((a || b) || false)
+or_two true b = refl
+or_two false b = refl
+
+or_three : (a b c : Bool) → (a || (b || (c || false))) ≡ ((a || b) || c)
+or_three true b c = refl
+or_three false true c = refl
+or_three false false c = or_none c
+
+-- one of at most three arguments is read
+read_by_types : (f : ℕ → Part) (types : List Ty) (other : Part) → length types ≤ 3 → is_read_ever (map (renamed_reading f) (arguments_read 0 (length types))) other ≡ (((is_some (slice_get types 0) && is_part other.wire.0 other.role (f 0)) || (is_some (slice_get types 1) && is_part other.wire.0 other.role (f 1))) || (is_some (slice_get types 2) && is_part other.wire.0 other.role (f 2)))
+read_by_types f [] other h = refl
+read_by_types f (x ∷ []) other h = or_two (is_part other.wire.0 other.role (f 0)) false
+read_by_types f (x ∷ y ∷ []) other h = or_two (is_part other.wire.0 other.role (f 0)) (is_part other.wire.0 other.role (f 1))
+read_by_types f (x ∷ y ∷ z ∷ []) other h = or_three (is_part other.wire.0 other.role (f 0)) (is_part other.wire.0 other.role (f 1)) (is_part other.wire.0 other.role (f 2))
+read_by_types f (x ∷ y ∷ z ∷ w ∷ types) other h = absurd (omega arith)
+
+pub block_read : (net : NetData) (kind : Kind) (b : Block) (other : Part) (x y z : Option Ty) (i j k : ℕ) (first second third : Bool) → x ≡ type_read b 0 → y ≡ type_read b 1 → z ≡ type_read b 2 → i ≡ argument_of b 0 → j ≡ argument_of b 1 → k ≡ argument_of b 2 → first ≡ (is_some x && is_part other.wire.0 other.role (value_part i)) → second ≡ (is_some y && is_part other.wire.0 other.role (value_part j)) → third ≡ (is_some z && is_part other.wire.0 other.role (value_part k)) → ((first || second) || third) ≡ is_read_ever (block_rule net kind b Value).reads other
+block_read net kind b other x y z i j k first second third ex ey ez ei ej ek a1 a2 a3 =
+    rw (a1, a2, a3, ex, ey, ez, ei, ej, ek) (sym (read_by_types (argument_part b) (types_read b) other (few_arguments b)))
+    ∙ sym (ap (λ r. is_read_ever r other) (block_reads net kind b))

@@ -1,6 +1,7 @@
--- The rules of blocks, family by family: what they read, that they are sound, and what the equations of their wires make. No
+-- The rules of blocks, family by family: what they read, that they are kept, and what the equations of their wires make. No
 -- other proof here names a family.
-use Rattle.std.proofs.Common.{◌≡◌, ℕ, zero, suc, ◌<◌, List, map, length, ℤ, pos, ◌≤ℤ◌, refl, sym, ap, ◌∙◌, subst, arith}
+use Rattle.std.specs.Prelude.{Option, Some, None}
+use Rattle.std.proofs.Common.{ap₂, ◌≡◌, ℕ, ◌<◌, ◌≤◌, Bool, true, false, not, ◌||◌, cond, List, map, length, ℤ, pos, ◌≤ℤ◌, refl, sym, ap, ◌∙◌, subst, arith}
 use Rattle.fx_fraction.specs.Fraction.{Fraction, whole}
 use Rattle.fx_core.specs.declared.word_type.Ty.{Ty}
 use Rattle.fx_core.specs.declared.word_type.Ty.TheVariants.{U8, S8, U16, S16, U32, S32}
@@ -12,7 +13,9 @@ use Rattle.fx_routines.specs.declared.operation.ArithOp.TheVariants.{Abs, MulDiv
 use Rattle.fx_routines.specs.declared.operation.ScaledOp.{ScaledOp}
 use Rattle.fx_routines.specs.declared.operation.ScaledOp.TheVariants.{Convert}
 use Rattle.fx_routines.specs.declared.operation.Variant.{Variant}
-use Rattle.mfx_arith.specs.Operations.{argument_types, arith_arity, unsigned_of}
+use Rattle.fx_core.specs.Arguments.{three, two}
+use Rattle.mfx_arith.specs.Operations.{argument_types, arith_arity, is_smooth_operation, unsigned_of}
+use Rattle.mfx_scaled.specs.declared.binary_points.Points.{Points}
 use Rattle.mfx_scaled.specs.Operations.{argument_types as scaled_types, scaled_arity}
 use Rattle.net_model.specs.declared.wires.WireNo.{WireNo}
 use Rattle.net_model.specs.declared.wires.Kind.{Kind}
@@ -24,16 +27,24 @@ use Rattle.net_model.specs.declared.wires.Part.{Part}
 use Rattle.net_model.specs.Wires.{NetData, wire_at, argument_of, kind_least, kind_greatest}
 use Rattle.net_model.specs.Validity.{IsValid, types_read}
 use Rattle.net_model.proofs.ValidityFacts.{arith-valid, number_kind}
+use Rattle.net_model.proofs.BuiltFacts.{shift_from_test}
 use Rattle.net_meaning.specs.Cells.{Cell, values_read as read_values}
 use Rattle.net_meaning.specs.Blocks.{formula, state_formula, quotient_of, mode_of, points_of, machine, machine_cell, machine_state_of, exact, exact_cell, state_least, state_greatest}
 use Rattle.net_meaning.specs.Runs.{equation_of}
 use Rattle.part_rules.specs.declared.bounds.Bounds.{Bounds}
-use Rattle.part_rules.specs.PartRules.{Reading, PartMeaning, IsSound, arguments_read, bounds_at, renamed, renamed_reading}
-use Rattle.part_rules.proofs.RuleLaws.{renamed_is_sound, sound_where_fit}
+use Rattle.part_rules.specs.Entries.{if_small}
+use Rattle.part_rules.specs.PartRules.{Reading, PartMeaning, KeepsRule, arguments_read, bounds_at, renamed, renamed_reading}
+use Rattle.part_rules.proofs.RuleLaws.{renamed_keeps, keeps_where_fit}
+use Rattle.mfx_rules.specs.ArithRules.{arith_bounds, arith_may_divide_by_zero}
+use Rattle.mfx_rules.specs.ScaledRules.{scaled_bounds, scaled_may_divide_by_zero}
+use Rattle.mfx_rules.proofs.ArithArguments.{bounds_of_three, divisor_of_three}
+use Rattle.mfx_rules.proofs.ScaledArguments.{form_bounds_of_two, form_divisor_of_two}
 use Rattle.mfx_rules.specs.OperationRules.{arith_rule, arith_meaning, FitOperation, scaled_rule, scaled_meaning, FitForm}
-use Rattle.mfx_rules.proofs.SoundRules.{operations_are_sound, forms_are_sound}
+use Rattle.mfx_rules.proofs.KeptRules.{operations_keep_rules, forms_keep_rules}
 use Rattle.cert_rules.specs.Rules.{argument_part, block_rule, least_of_part}
-use Rattle.cert_rules.proofs.Readings.{reading_at}
+use Rattle.cert_rules.specs.declared.lookups.Given.{Given}
+use Rattle.cert_rules.specs.GivenBounds.{AreGiven, reading_at}
+use Rattle.cert_rules.proofs.AcceptanceLaws.{ruled_if_built}
 
 -- ---- what is read
 
@@ -59,7 +70,25 @@ unfolding block_rule
 block_reads net kind (Arith op v x y z sh) = ap (λ n. map (renamed_reading (argument_part (Arith op v x y z sh))) (arguments_read 0 n)) (arith_count op v)
 block_reads net kind (Scaled op v x y) = ap (λ n. map (renamed_reading (argument_part (Scaled op v x y))) (arguments_read 0 n)) (scaled_count op v)
 
--- ---- what a block's value means, and that its rule is sound
+few_arith : (op : ArithOp) (v : Variant) → length (argument_types op v) ≤ 3
+few_arith Abs v = omega arith
+few_arith MulDiv v = omega arith
+few_arith Limit v = omega arith
+few_arith Min v = omega arith
+few_arith Max v = omega arith
+few_arith RateLimiter v = omega arith
+few_arith other v = omega arith
+
+few_scaled : (op : ScaledOp) (v : Variant) → length (scaled_types op v) ≤ 3
+few_scaled Convert v = omega arith
+few_scaled other v = omega arith
+
+-- a block has at most three arguments
+pub few_arguments : (b : Block) → length (types_read b) ≤ 3
+few_arguments (Arith op v x y z sh) = few_arith op v
+few_arguments (Scaled op v x y) = few_scaled op v
+
+-- ---- what a block's value means, and that it keeps its rule
 
 -- by its formula and its quotient, from its arguments at the same row and without a state
 abbrev pub block_meaning : NetData → Kind → Block → PartMeaning
@@ -90,17 +119,17 @@ arith_fits net i RateLimiter v x y z sh given valid h is fit =
     subst (λ n. n ≤ℤ (bounds_at given 2).lo) least (fit 2 (omega arith))
 arith_fits net i other v x y z sh given valid h is fit = tt
 
-pub blocks_are_sound : (net : NetData) (kind : Kind) (i : ℕ) (b : Block) → IsValid net → i < length net.wires → (wire_at net.wires i).item ≡ OfBlock b → IsSound (block_rule net kind b Value) (block_meaning net kind b) (FitReads net (block_rule net kind b Value).reads)
+pub blocks_keep : (net : NetData) (kind : Kind) (i : ℕ) (b : Block) → IsValid net → i < length net.wires → (wire_at net.wires i).item ≡ OfBlock b → KeepsRule (block_rule net kind b Value) (block_meaning net kind b) (FitReads net (block_rule net kind b Value).reads)
 unfolding block_rule formula quotient_of
-blocks_are_sound net kind i (Arith op v x y z sh) valid h is =
+blocks_keep net kind i (Arith op v x y z sh) valid h is =
     let b = Arith op v x y z sh in
     let rule = renamed (argument_part b) (arith_rule op sh) in
-    sound_where_fit rule (arith_meaning op sh) (FitOperation op) (FitReads net rule.reads) (λ given fit. arith_fits net i op v x y z sh given valid h is fit) (renamed_is_sound (argument_part b) (arith_rule op sh) (arith_meaning op sh) (FitOperation op) (operations_are_sound op sh))
-blocks_are_sound net kind i (Scaled op v x y) valid h is =
+    keeps_where_fit rule (arith_meaning op sh) (FitOperation op) (FitReads net rule.reads) (λ given fit. arith_fits net i op v x y z sh given valid h is fit) (renamed_keeps (argument_part b) (arith_rule op sh) (arith_meaning op sh) (FitOperation op) (operations_keep_rules op sh))
+blocks_keep net kind i (Scaled op v x y) valid h is =
     let b = Scaled op v x y in
     let points = points_of net kind b in
     let rule = renamed (argument_part b) (scaled_rule op points) in
-    sound_where_fit rule (scaled_meaning op points) FitForm (FitReads net rule.reads) (λ given fit. tt) (renamed_is_sound (argument_part b) (scaled_rule op points) (scaled_meaning op points) FitForm (forms_are_sound op points))
+    keeps_where_fit rule (scaled_meaning op points) FitForm (FitReads net rule.reads) (λ given fit. tt) (renamed_keeps (argument_part b) (scaled_rule op points) (scaled_meaning op points) FitForm (forms_keep_rules op points))
 
 -- ---- what the equation of a block's wire makes
 
@@ -133,3 +162,22 @@ pub block_kept : (net : NetData) (rows : List (List ℤ)) (i : ℕ) (b : Block) 
 unfolding equation_of machine machine_cell machine_state_of state_formula
 block_kept net rows i (Arith op v x y z sh) m = record { kept = saturated_to-between _ _ _; state_low = record { le = tt }; state_high = record { le = tt } }
 block_kept net rows i (Scaled op v x y) m = record { kept = saturated_to-between _ _ _; state_low = record { le = tt }; state_high = record { le = tt } }
+
+-- ---- what the functions of the rules owe, family by family
+
+-- bounds by the first three that are known
+pub arith_returns : (net : NetData) (kind : Kind) (b : Block) (op : ArithOp) (v : Variant) (x y z : WireNo) (sh : ℕ) (given : Given) (known : List Bounds) (result : Option Bounds) → b ≡ Arith op v x y z sh → is_smooth_operation op ≡ true → AreGiven given known → result ≡ cond (arith_may_divide_by_zero op (three given.first given.second given.third)) None (if_small (arith_bounds op sh (three given.first given.second given.third))) → result ≡ cond ((block_rule net kind b Value).fails known) None (if_small ((block_rule net kind b Value).bounds known))
+unfolding block_rule
+arith_returns net kind b op v x y z sh given known result is smooth g e =
+    rw is (e ∙ rw (g.first, g.second, g.third) (ap₂ (λ t n. cond t None (if_small n)) (divisor_of_three op (bounds_at known) ∙ rw smooth refl) (bounds_of_three op sh (bounds_at known))))
+
+pub scaled_returns : (net : NetData) (kind : Kind) (b : Block) (op : ScaledOp) (v : Variant) (x y : WireNo) (points : Points) (given : Given) (known : List Bounds) (result : Option Bounds) → b ≡ Scaled op v x y → points ≡ points_of net kind b → AreGiven given known → result ≡ cond (scaled_may_divide_by_zero op (two given.first given.second)) None (if_small (scaled_bounds op points (two given.first given.second))) → result ≡ cond ((block_rule net kind b Value).fails known) None (if_small ((block_rule net kind b Value).bounds known))
+unfolding block_rule
+scaled_returns net kind b op v x y points given known result is same g e =
+    rw is (e ∙ rw (g.first, g.second, same ∙ ap (points_of net kind) is) (ap₂ (λ t n. cond t None (if_small n)) (form_divisor_of_two op (bounds_at known)) (form_bounds_of_two op (points_of net kind (Scaled op v x y)) (bounds_at known))))
+
+-- a block of arithmetic in a network is smooth, and shifts by at most 15 places
+pub arith_there : (net : NetData) (i : ℕ) (b : Block) (op : ArithOp) (v : Variant) (x y z : WireNo) (sh : ℕ) → IsValid net → i < length net.wires → (wire_at net.wires i).item ≡ OfBlock b → b ≡ Arith op v x y z sh → (is_smooth_operation op ≡ true) × (sh ≤ 15)
+arith_there net i b op v x y z sh valid h is case =
+    let good = arith-valid net i op v x y z sh valid h (is ∙ ap OfBlock case) in
+    (ruled_if_built op good.built, shift_from_test op sh good.shift)

@@ -8,11 +8,12 @@ use Rattle.net_model.specs.declared.wires.Role.{Role}
 use Rattle.net_model.specs.declared.wires.Role.TheVariants.{Value}
 use Rattle.net_model.specs.Wires.{NetData, wire_at, parts_of}
 use Rattle.net_model.specs.Validity.{IsValid}
-use Rattle.net_model.proofs.ValidityFacts.{length-parts_of, length-valid}
+use Rattle.net_model.proofs.PartPlaces.{few_parts}
 use Rattle.fx_core.proofs.WordSteps.{word_of}
 use Rattle.part_rules.specs.declared.bounds.Bounds.{Bounds}
 use Rattle.cert_rules.specs.Certificates.{entry_of}
 use Rattle.cert_rules.specs.Rules.{is_allowed, rule_of}
+use Rattle.cert_rules.specs.Soundness.{AreAllowedFor}
 use Rattle.cert_rules.specs.Acceptance.{AreAllowed, entry_at, first_failing, first_rejected, is_inductive_at, is_allowed_at, lies_inside, or_later, part_at, start_of, starts_inside}
 
 -- ---- one step of the search
@@ -82,34 +83,36 @@ none_starts (Const value) Value = refl
 none_starts (OfBlock b) Value = refl
 
 -- a part is inductive where its rule's bounds lie within its entry
-pub inductive_is : (net : NetData) (entries : List Bounds) (k : ℕ) → is_inductive_at net entries k ≡ lies_inside (rule_of net (part_at net k).wire.0 (part_at net k).role (entry_of net entries)) (entry_at entries k)
+pub inductive_is : (net : NetData) (entries : List Bounds) (k : ℕ) → is_inductive_at net entries k ≡ lies_inside (rule_of net (part_at net k) (entry_of net entries)) (entry_at entries k)
 unfolding is_inductive_at
 inductive_is net entries k =
-    ap (λ s. starts_inside s (entry_at entries k) && lies_inside (rule_of net (part_at net k).wire.0 (part_at net k).role (entry_of net entries)) (entry_at entries k)) (none_starts (wire_at net.wires (part_at net k).wire.0).item (part_at net k).role)
+    ap (λ s. starts_inside s (entry_at entries k) && lies_inside (rule_of net (part_at net k) (entry_of net entries)) (entry_at entries k)) (none_starts (wire_at net.wires (part_at net k).wire.0).item (part_at net k).role)
 
 -- the number of parts is a word
 pub count_fits : (net : NetData) → IsValid net → Fits w32 (length (parts_of net.wires))
-count_fits net valid =
-    let few : length net.wires ≤ 512 = length-valid net valid in
-    rw (length-parts_of net.wires) (Fits-le few (Fits-lit tt))
+count_fits net valid = Fits-le (few_parts net valid) (Fits-lit tt)
+
+-- where each entry is allowed those that a rule reads are
+pub allowed_for : (net : NetData) (entries : List Bounds) (p : ℕ) → AreAllowed net entries → AreAllowedFor net entries p
+allowed_for net entries p allowed k h read = allowed k h
 
 -- ---- the two tests of a part
 
-pub allowed_when : (net : NetData) (entries : List Bounds) (k : ℕ) (t p : Bool) → t ≡ is_allowed (wire_at net.wires (part_at net k).wire.0).kind (part_at net k).role (entry_at entries k) → t ≡ true → p ≡ (int_le (entry_at entries k).lo (entry_at entries k).hi && int_le (pos 0) (entry_at entries k).err) → p ≡ is_allowed_at net entries k
+pub allowed_when : (net : NetData) (entries : List Bounds) (k : ℕ) (t p : Bool) → t ≡ is_allowed net (part_at net k) (entry_at entries k) → t ≡ true → p ≡ (int_le (entry_at entries k).lo (entry_at entries k).hi && int_le (pos 0) (entry_at entries k).err) → p ≡ is_allowed_at net entries k
 unfolding is_allowed_at
 allowed_when net entries k t p e passed f =
     f ∙ ap (λ a. a && int_le (entry_at entries k).lo (entry_at entries k).hi && int_le (pos 0) (entry_at entries k).err) (sym passed ∙ e)
 
-pub allowed_not : (net : NetData) (entries : List Bounds) (k : ℕ) (t : Bool) → t ≡ is_allowed (wire_at net.wires (part_at net k).wire.0).kind (part_at net k).role (entry_at entries k) → t ≡ false → t ≡ is_allowed_at net entries k
+pub allowed_not : (net : NetData) (entries : List Bounds) (k : ℕ) (t : Bool) → t ≡ is_allowed net (part_at net k) (entry_at entries k) → t ≡ false → t ≡ is_allowed_at net entries k
 unfolding is_allowed_at
 allowed_not net entries k t e failed =
     failed ∙ ap (λ a. a && int_le (entry_at entries k).lo (entry_at entries k).hi && int_le (pos 0) (entry_at entries k).err) (sym failed ∙ e)
 
-pub inductive_some : (net : NetData) (entries : List Bounds) (k : ℕ) (found : Option Bounds) (given : Bounds) (t : Bool) → found ≡ rule_of net (part_at net k).wire.0 (part_at net k).role (entry_of net entries) → found ≡ Some given → t ≡ (int_le (entry_at entries k).lo given.lo && int_le given.hi (entry_at entries k).hi && int_le given.err (entry_at entries k).err) → t ≡ is_inductive_at net entries k
+pub inductive_some : (net : NetData) (entries : List Bounds) (k : ℕ) (found : Option Bounds) (given : Bounds) (t : Bool) → found ≡ rule_of net (part_at net k) (entry_of net entries) → found ≡ Some given → t ≡ (int_le (entry_at entries k).lo given.lo && int_le given.hi (entry_at entries k).hi && int_le given.err (entry_at entries k).err) → t ≡ is_inductive_at net entries k
 inductive_some net entries k found given t e is f =
     f ∙ ap (λ r. lies_inside r (entry_at entries k)) (sym is ∙ e) ∙ sym (inductive_is net entries k)
 
-pub inductive_none : (net : NetData) (entries : List Bounds) (k : ℕ) (found : Option Bounds) → found ≡ rule_of net (part_at net k).wire.0 (part_at net k).role (entry_of net entries) → found ≡ None → false ≡ is_inductive_at net entries k
+pub inductive_none : (net : NetData) (entries : List Bounds) (k : ℕ) (found : Option Bounds) → found ≡ rule_of net (part_at net k) (entry_of net entries) → found ≡ None → false ≡ is_inductive_at net entries k
 inductive_none net entries k found e is =
     ap (λ r. lies_inside r (entry_at entries k)) (sym is ∙ e) ∙ sym (inductive_is net entries k)
 

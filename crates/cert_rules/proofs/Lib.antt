@@ -1,2 +1,10 @@
 pub mod Readings
+pub mod EntryFacts
+pub mod Findings
+pub mod AcceptanceLaws
 pub mod BlockRules
+pub mod ReadParts
+pub mod RuleFacts
+pub mod RuleSoundness
+pub mod AcceptedEntries
+pub mod ArgumentSearch

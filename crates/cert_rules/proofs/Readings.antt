@@ -1,20 +1,17 @@
 -- What a rule reads, reading by reading.
-use Rattle.std.proofs.Common.{◌≡◌, ℕ, zero, suc, ◌+◌, ◌<◌, ◌==◌, Bool, true, false, ◌&&◌, ◌||◌, List, [], ◌∷◌, map, length, get_or, refl, sym, ap, ap₂, ◌∙◌, arith, eqb-true, eq-eqb, cond}
+use Rattle.std.proofs.Common.{◌≡◌, ℕ, zero, suc, ◌+◌, ◌<◌, ◌≤◌, ◌==◌, Bool, true, false, ◌&&◌, ◌||◌, List, [], ◌∷◌, map, length, get_or, refl, sym, ap, ap₂, ◌∙◌, arith, eqb-true, eq-eqb, cond}
 use Rattle.std.specs.Prelude.{IsTrue, if◌then◌else◌}
 use Rattle.std.proofs.lemmas.Bool.{and_parts, and_from, false≢true}
 use Rattle.net_model.specs.declared.wires.Part.{Part}
-use Rattle.net_model.specs.Wires.{NetData, no_part, is_part, parts_of, place_in, same_role}
+use Rattle.net_model.specs.Wires.{NetData, is_part, parts_of, place_in, same_role}
 use Rattle.net_model.proofs.PartPlaces.{part_of, same_role-true, same_role-itself, has_place, part_there, HasPlace}
 use Rattle.part_rules.specs.declared.bounds.Bounds.{Bounds}
 use Rattle.part_rules.specs.Within.{no_bounds}
-use Rattle.part_rules.specs.PartRules.{Reading, read_now, bounds_at, bounds_read, AgreeOn}
+use Rattle.part_rules.specs.PartRules.{Reading, bounds_at, bounds_read, AgreeOn}
 use Rattle.cert_rules.specs.Certificates.{IsPart, entry_of}
 use Rattle.cert_rules.specs.Acceptance.{entry_at, part_at}
 use Rattle.cert_rules.specs.Arguments.{rows_ago, reads_part, is_read, is_read_ever}
-
--- reading number q, from 0
-abbrev pub reading_at : List (Reading Part) → ℕ → Reading Part
-reading_at reads q = get_or reads q (read_now no_part)
+use Rattle.cert_rules.specs.GivenBounds.{reading_at}
 
 -- ---- the numbers of readings
 
@@ -44,8 +41,8 @@ read_ever (reading ∷ reads) (suc q) h = either _ _ (read_ever reads q (omega a
 pub record IsReading (reads : List (Reading Part)) (part : Part) (ago : ℕ) : Type 0 where
   pub number : ℕ
   pub within : number < length reads
-  pub part : (reading_at reads number).part ≡ part
-  pub ago : rows_ago (reading_at reads number) ≡ ago
+  pub is : (reading_at reads number).part ≡ part
+  pub rows : rows_ago (reading_at reads number) ≡ ago
 
 same_part : (one other : Part) → is_part other.wire.0 other.role one ≡ true → one ≡ other
 same_part one other h =
@@ -55,10 +52,10 @@ same_part one other h =
 by_first : (reading : Reading Part) (reads : List (Reading Part)) (part : Part) (ago : ℕ) (t : Bool) → (reads_part part reading && rows_ago reading == ago) ≡ t → (t || is_read reads part ago) ≡ true → (is_read reads part ago ≡ true → IsReading reads part ago) → IsReading (reading ∷ reads) part ago
 by_first reading reads part ago true e h later =
     let both = and_parts (reads_part part reading) (rows_ago reading == ago) e in
-    record { number = 0; within = omega arith; part = same_part reading.part part both.0; ago = eqb-true _ _ both.1 }
+    record { number = 0; within = omega arith; is = same_part reading.part part both.0; rows = eqb-true _ _ both.1 }
 by_first reading reads part ago false e h later =
     let r = later h in
-    record { number = suc r.number; within = omega (arith, r.within); part = r.part; ago = r.ago }
+    record { number = suc r.number; within = omega (arith, r.within); is = r.is; rows = r.rows }
 
 pub reading_of : (reads : List (Reading Part)) (part : Part) (ago : ℕ) → is_read reads part ago ≡ true → IsReading reads part ago
 reading_of [] part ago h = absurd (false≢true h)

@@ -1,196 +1,202 @@
--- What the functions of the rules owe: that a block's arguments have entries, that these are small, and that the
--- computed bounds are the definition's.
-use Rattle.std.proofs.Common.{◌≡◌, ℕ, ◌<◌, Bool, true, false, cond, List, length, ℤ, pos, ◌≤ℤ◌, refl, sym, ap, ap₂, ◌∙◌, arith, Option, Some, None, FitsSigned, to_z, of_z, w64}
-use Rattle.std.specs.Prelude.{◌≤◌, ◌||◌, not, int_le}
-use Rattle.std.proofs.lemmas.Bool.{and_from, true≢false}
-use Rattle.fx_fraction.proofs.WholeNumbers.{int_le-false, int_le_trans}
+-- What the functions of the rules owe: that what is read has entries, that these are small, and that the computed bounds are
+-- the definition's.
+use Rattle.std.proofs.Common.{◌≡◌, ℕ, zero, suc, ◌<◌, ◌≤◌, Bool, true, false, ◌&&◌, cond, List, [], ◌∷◌, map, length, ℤ, pos, ◌≤ℤ◌, slice_get, nat_lt, int_le, refl, sym, ap, ap₂, ◌∙◌, subst, arith, true≢false, FitsSigned, to_z, of_z, w64, ltb-true, ltb-false}
+use Rattle.std.specs.Prelude.{Option, Some, None, is_some, IsTrue, if◌then◌else◌, option_map}
+use Rattle.std.proofs.lemmas.Bool.{and_from}
+use Rattle.std.proofs.lemmas.Bool.Decides.{nat_tests}
 use Rattle.std.proofs.lemmas.Int.{ints, to_z-of_z}
-use Rattle.fx_routines.specs.declared.operation.Variant.{Variant}
-use Rattle.fx_routines.specs.declared.operation.ArithOp.{ArithOp}
-use Rattle.fx_routines.specs.declared.operation.ScaledOp.{ScaledOp}
+use Rattle.fx_fraction.proofs.WholeNumbers.{int_le_trans, int_le-false}
+use Rattle.fx_core.specs.declared.word_type.Ty.{Ty}
 use Rattle.mfx_scaled.specs.declared.binary_points.Points.{Points}
-use Rattle.net_model.specs.declared.wires.WireNo.{WireNo}
+use Rattle.net_model.specs.declared.wires.PartNo.{PartNo}
 use Rattle.net_model.specs.declared.wires.Kind.{Kind}
 use Rattle.net_model.specs.declared.wires.Block.{Block}
-use Rattle.net_model.specs.declared.wires.Block.TheVariants.{Arith, Scaled}
 use Rattle.net_model.specs.declared.wires.Item.{Item}
 use Rattle.net_model.specs.declared.wires.Item.TheVariants.{Input, Const, Block as OfBlock}
 use Rattle.net_model.specs.declared.wires.Role.TheVariants.{Value}
-use Rattle.net_model.specs.Wires.{NetData, wire_at, argument_of, parts_of}
-use Rattle.net_model.specs.Validity.{IsValid}
-use Rattle.net_meaning.specs.Blocks.{points_of}
-use Rattle.fx_core.specs.Arguments.{three, two}
-use Rattle.mfx_arith.specs.Operations.{is_smooth_operation}
+use Rattle.net_model.specs.declared.wires.Part.{Part}
+use Rattle.net_model.specs.Wires.{NetData, wire_at, argument_of, part_number, parts_of, place_in}
+use Rattle.net_model.specs.Validity.{IsValid, type_read, types_read}
+use Rattle.net_model.proofs.ValidityFacts.{argument_of-valid}
+use Rattle.net_model.proofs.PartPlaces.{has_place, has_role-value}
 use Rattle.part_rules.specs.declared.bounds.Bounds.{Bounds}
-use Rattle.cert_rules.specs.Certificates.{entry_of}
-use Rattle.cert_rules.specs.Rules.{allowed_of, arguments_of, bounds_of, is_allowed, proposed, rule_of}
-use Rattle.mfx_rules.specs.ScaledRules.{scaled_bounds, scaled_may_divide_by_zero}
-use Rattle.mfx_rules.specs.ArithRules.{arith_bounds, arith_may_divide_by_zero}
-use Rattle.cert_rules.specs.Acceptance.{AreAllowed, entry_at}
-use Rattle.part_rules.specs.Entries.{IsSmall, if_small, is_small}
-use Rattle.mfx_rules.proofs.ScaledArguments.{form_bounds_of_two, form_divisor_of_two, proper_form_bounds}
-use Rattle.mfx_rules.proofs.ArithArguments.{bounds_of_three, divisor_of_three, proper_bounds}
-use Rattle.cert_rules.proofs.UnsignedSteps.{unsigned_step}
-use Rattle.cert_rules.proofs.AcceptanceLaws.{ruled_if_built}
-use Rattle.net_model.proofs.BuiltFacts.{shift_from_test}
-use Rattle.net_model.proofs.ValidityFacts.{argument_of-valid, arith-valid, length-parts_of}
-use Rattle.cert_rules.proofs.EntryFacts.{are_between, entry_of-value, kind_greatest-high, kind_least-low, small_entry}
+use Rattle.part_rules.specs.Entries.{IsSmall, is_small, if_small}
+use Rattle.part_rules.specs.Within.{no_bounds}
+use Rattle.part_rules.specs.PartRules.{PartRule, IsProper, bounds_at, bounds_read, given_by}
+use Rattle.part_rules.proofs.RuleLaws.{gives_proper, length-arguments_read}
+use Rattle.std.proofs.lemmas.List.{length-map}
+use Rattle.cert_rules.specs.declared.lookups.Given.{Given}
+use Rattle.cert_rules.specs.Rules.{allowed_of, block_rule, is_allowed, item_rule, part_rule, rule_of}
+use Rattle.cert_rules.specs.Certificates.{IsPart, entry_of}
+use Rattle.cert_rules.specs.Acceptance.{entry_at, is_allowed_at, is_allowed_entry, part_at}
+use Rattle.cert_rules.specs.Arguments.{is_read_ever, reads_at, reads_of}
+use Rattle.cert_rules.specs.Soundness.{AreAllowedFor}
+use Rattle.cert_rules.specs.GivenBounds.{AreAllowedReads, AreGiven, AreSmall, reading_at, value_part}
+use Rattle.cert_rules.proofs.BlockRules.{FitReads, block_meaning, block_reads, blocks_keep, values_read}
+use Rattle.cert_rules.proofs.EntryFacts.{allowed_entry, are_between, kind_greatest-high, kind_least-low, small_none, small_value}
+use Rattle.cert_rules.proofs.Readings.{given_at, given_past, has_number, numbered, read_ever}
+use Rattle.cert_rules.proofs.ReadParts.{is_orderly, values_at}
 
--- ---- a block's arguments
+-- ---- what a rule reads
 
-argument_there : (net : NetData) (i : ℕ) (b : Block) → IsValid net → i < length net.wires → (wire_at net.wires i).item ≡ OfBlock b → (p : ℕ) → argument_of b p < length net.wires
-argument_there net i b valid h is p = omega (arith, argument_of-valid net i b valid h is p)
+-- each part that it reads is one of the network, and where those that it reads are allowed so is its entry
+pub allowed_reads : (net : NetData) (entries : List Bounds) (p : ℕ) → IsValid net → p < length (parts_of net.wires) → AreAllowedFor net entries p → AreAllowedReads net (reads_of net p) entries
+unfolding reads_at is_allowed_at
+allowed_reads net entries p valid h allowed q l =
+    let reading = reading_at (reads_of net p) q in
+    let there = (is_orderly net (part_at net p) valid (numbered net p h) q l).there in
+    let number = has_number net reading.part there in
+    let read = subst (λ part. IsTrue (is_read_ever (reads_of net p) part)) (sym number.there) (read_ever (reads_of net p) q l) in
+    let here = subst (λ part. IsTrue (is_allowed_entry net part (entry_at entries number.number))) number.there (allowed number.number number.within read) in
+    (there, rw (number.entry entries) here)
 
--- a block of Mfx arithmetic has a rule, a count of places of at most 15, and three wires
-pub record ArithThere (net : NetData) (op : ArithOp) (x y z : WireNo) (sh : ℕ) : Type 0 where
-  pub ruled : is_smooth_operation op ≡ true
-  pub places : sh ≤ 15
-  pub first : x.0 < length net.wires
-  pub second : y.0 < length net.wires
-  pub third : z.0 < length net.wires
+-- a wire has an entry of its value
+pub value_number : (net : NetData) (wire : ℕ) → wire < length net.wires → part_number net.wires wire Value ≡ Some (place_in wire Value (parts_of net.wires))
+unfolding part_number
+value_number net wire h = ap (λ t. cond t (Some (place_in wire Value (parts_of net.wires))) None) (has_role-value (wire_at net.wires wire).item)
 
-pub arith_there : (net : NetData) (i : ℕ) (b : Block) (op : ArithOp) (v : Variant) (x y z : WireNo) (sh : ℕ) → IsValid net → i < length net.wires → (wire_at net.wires i).item ≡ OfBlock b → b ≡ Arith op v x y z sh → ArithThere net op x y z sh
-arith_there net i b op v x y z sh valid h is case =
-    let good = arith-valid net i op v x y z sh valid h (is ∙ ap OfBlock case) in
-    record {
-      ruled = ruled_if_built op good.built;
-      places = shift_from_test op sh good.shift;
-      first = omega (arith, good.earlier_x);
-      second = omega (arith, good.earlier_y);
-      third = omega (arith, good.earlier_z);
-    }
+some_number : (a b : PartNo) → ◌≡◌ {A = Option PartNo} (Some a) (Some b) → a ≡ b
+some_number a b h = cc
 
--- a form has two wires
-pub record ScaledThere (net : NetData) (x y : WireNo) : Type 0 where
-  pub first : x.0 < length net.wires
-  pub second : y.0 < length net.wires
+pub number_is : (net : NetData) (wire : ℕ) (found : Option PartNo) (part : PartNo) → wire < length net.wires → found ≡ option_map (λ n. record { 0 = n }) (part_number net.wires wire Value) → found ≡ Some part → (part.0 ≡ place_in wire Value (parts_of net.wires)) × (part.0 < length (parts_of net.wires))
+number_is net wire found part h e is =
+    let same : part.0 ≡ place_in wire Value (parts_of net.wires) = ap (λ n. n.0) (some_number part _ (sym is ∙ e ∙ ap (option_map (λ (n : ℕ). record { 0 = n })) (value_number net wire h))) in
+    (same, rw same ((has_place net wire Value h (has_role-value (wire_at net.wires wire).item)).below))
 
-pub scaled_there : (net : NetData) (i : ℕ) (b : Block) (op : ScaledOp) (v : Variant) (x y : WireNo) → IsValid net → i < length net.wires → (wire_at net.wires i).item ≡ OfBlock b → b ≡ Scaled op v x y → ScaledThere net x y
-scaled_there net i b op v x y valid h is case =
-    let there = argument_there net i (Scaled op v x y) valid h (is ∙ ap OfBlock case) in
-    record { first = there 0; second = there 1 }
+pub number_there : (net : NetData) (wire : ℕ) (found : Option PartNo) → wire < length net.wires → found ≡ option_map (λ n. record { 0 = n }) (part_number net.wires wire Value) → found ≡ None → ⊥
+number_there net wire found h e is = no_number _ (sym is ∙ e ∙ ap (option_map (λ (n : ℕ). record { 0 = n })) (value_number net wire h))
+  where
+    no_number : (n : PartNo) → ◌≡◌ {A = Option PartNo} None (Some n) → ⊥
+    no_number n h = cc
 
--- a wire has an entry, and an allowed one is small
-pub entry_there : (net : NetData) (entries : List Bounds) (w : ℕ) → length entries ≡ length (parts_of net.wires) → w < length net.wires → w < length entries
-entry_there net entries w complete h = omega (arith, length-parts_of net.wires)
+pub entry_is : (net : NetData) (entries : List Bounds) (wire : ℕ) (k : ℕ) (b : Bounds) → k ≡ place_in wire Value (parts_of net.wires) → b ≡ entry_at entries k → b ≡ entry_of net entries (value_part wire)
+unfolding entry_of
+entry_is net entries wire k b same e = e ∙ ap (entry_at entries) same
 
-pub entry_small : (net : NetData) (entries : List Bounds) (w : ℕ) (b : Bounds) → AreAllowed net entries → w < length net.wires → b ≡ entry_at entries w → IsSmall b
-entry_small net entries w b allowed h e = rw e (small_entry net entries allowed w h)
+-- ---- the bounds that a rule is given
 
--- ---- the bounds of a block
+none_below : (q : ℕ) → nat_lt q 0 ≡ false
+none_below q = grind (arith, nat_tests)
 
-same_entry : (net : NetData) (entries : List Bounds) (w : ℕ) (b : Bounds) → w < length net.wires → b ≡ entry_at entries w → b ≡ entry_of net entries w Value
-same_entry net entries w b h e = e ∙ sym (entry_of-value net entries w h)
+zero_below : (n : ℕ) → nat_lt 0 (suc n) ≡ true
+zero_below n = grind (arith, nat_tests)
 
--- bounds that are allowed for a part are small, where their range isn't empty and their error isn't negative
-int_le-test : (a b : ℤ) (t : Bool) → int_le a b ≡ t → a ≤ℤ b → int_le a b ≡ true
-int_le-test a b true e h = e
-int_le-test a b false e h = absurd (omega (arith, ints, h, int_le-false a b e))
+suc_below : (k n : ℕ) → nat_lt (suc k) (suc n) ≡ nat_lt k n
+suc_below k n = grind (arith, nat_tests)
 
-pub is_small-from : (kind : Kind) (b : Bounds) → b.lo ≤ℤ b.hi → pos 0 ≤ℤ b.err → is_allowed kind Value b ≡ true → is_small b ≡ true
-unfolding is_small
-is_small-from kind b ordered positive h =
-    let t = are_between kind b h in
-    let low = int_le_trans _ _ _ (kind_least-low kind) t.low in
-    let high = int_le_trans _ _ _ t.high (kind_greatest-high kind) in
-    and_from _ _ (and_from _ _ (and_from _ _ (and_from _ _ (int_le-test _ _ _ refl low) (int_le-test _ _ _ refl ordered)) (int_le-test _ _ _ refl high)) (int_le-test _ _ _ refl positive)) t.near
+some_type : (types : List Ty) (q : ℕ) → is_some (slice_get types q) ≡ nat_lt q (length types)
+some_type [] q = sym (none_below q)
+some_type (t ∷ types) zero = sym (zero_below (length types))
+some_type (t ∷ types) (suc q) = some_type types q ∙ sym (suc_below q (length types))
 
--- so leaving out the others leaves out nothing that is allowed
-leaves_out : (kind : Kind) (b : Bounds) (small is : Bool) → (is ≡ true → small ≡ true) → is_allowed kind Value b ≡ is → allowed_of kind Value (cond small (Some b) None) ≡ cond (is_allowed kind Value b) (Some b) None
-leaves_out kind b true is h e = refl
-leaves_out kind b false true h e = absurd (true≢false (sym (h refl)))
-leaves_out kind b false false h e = rw e refl
+as_many : (net : NetData) (kind : Kind) (b : Block) → length (block_rule net kind b Value).reads ≡ length (types_read b)
+as_many net kind b = ap length (block_reads net kind b) ∙ length-map _ _ ∙ length-arguments_read 0 (length (types_read b))
 
--- of the bounds of an operation that has a rule, by its three arguments
-arith_allowed : (kind : Kind) (ruled divides : Bool) (b : Bounds) → ruled ≡ true → (divides ≡ false → (b.lo ≤ℤ b.hi) × (pos 0 ≤ℤ b.err)) → allowed_of kind Value (cond divides None (if_small b)) ≡ allowed_of kind Value (cond (not ruled || divides) None (Some b))
-arith_allowed kind true true b h proper = refl
-arith_allowed kind true false b h proper =
-    let p = proper refl in
-    leaves_out kind b (is_small b) (is_allowed kind Value b) (is_small-from kind b p.0 p.1) refl
-arith_allowed kind false divides b h proper = absurd (true≢false (sym h))
+part_read : (net : NetData) (kind : Kind) (b : Block) (q : ℕ) → q < length (block_rule net kind b Value).reads → (reading_at (block_rule net kind b Value).reads q).part ≡ value_part (argument_of b q)
+part_read net kind b q h =
+    let reads = block_reads net kind b in
+    let l : q < length (values_read b) = rw reads at h in
+    ap (λ r. r.part) (ap (λ r. reading_at r q) reads ∙ values_at b q l)
 
--- the arguments of a block are small
-small_arguments : (net : NetData) (entries : List Bounds) (i : ℕ) (b : Block) → IsValid net → AreAllowed net entries → i < length net.wires → (wire_at net.wires i).item ≡ OfBlock b → (p : ℕ) → IsSmall (arguments_of b (λ k. entry_of net entries k Value) p)
-small_arguments net entries i b valid allowed h is p =
-    let there = argument_there net i b valid h is p in
-    rw (entry_of-value net entries (argument_of b p) there) (small_entry net entries allowed (argument_of b p) there)
+-- what is known of a reading, or that there is none, by the test of its number
+by_number : (net : NetData) (kind : Kind) (b : Block) (q : ℕ) (P : Bool → Type 0) → (q < length (block_rule net kind b Value).reads → P true) → (length (block_rule net kind b Value).reads ≤ q → P false) → P (nat_lt q (length (types_read b)))
+by_number net kind b q P f g = by_test (nat_lt q (length (types_read b))) refl
+  where
+    by_test : (t : Bool) → nat_lt q (length (types_read b)) ≡ t → P t
+    by_test true e = f (let l : q < length (types_read b) = ltb-true _ _ e in omega (arith, l, as_many net kind b))
+    by_test false e = g (let l : length (types_read b) ≤ q = ltb-false _ _ e in omega (arith, l, as_many net kind b))
 
-pub arith_returns : (net : NetData) (entries : List Bounds) (i : ℕ) (b : Block) (op : ArithOp) (v : Variant) (x y z : WireNo) (sh : ℕ) (r : Option Bounds) (first second third : Bounds) → IsValid net → AreAllowed net entries → i < length net.wires → (wire_at net.wires i).item ≡ OfBlock b → b ≡ Arith op v x y z sh → first ≡ entry_at entries x.0 → second ≡ entry_at entries y.0 → third ≡ entry_at entries z.0 → r ≡ cond (arith_may_divide_by_zero op (three first second third)) None (if_small (arith_bounds op sh (three first second third))) → allowed_of (wire_at net.wires i).kind Value r ≡ allowed_of (wire_at net.wires i).kind Value (bounds_of net (wire_at net.wires i).kind (OfBlock b) (λ k. entry_of net entries k Value))
-unfolding proposed
-arith_returns net entries i b op v x y z sh r first second third valid allowed h here case e f g is =
-    let kind = (wire_at net.wires i).kind in
-    let known : ℕ → Bounds = λ k. entry_of net entries k Value in
-    let given : ℕ → Bounds = arguments_of (Arith op v x y z sh) known in
-    let there = arith_there net i b op v x y z sh valid h here case in
-    let here' : (wire_at net.wires i).item ≡ OfBlock (Arith op v x y z sh) = here ∙ ap OfBlock case in
-    let e1 : first ≡ given 0 = same_entry net entries x.0 first there.first e in
-    let e2 : second ≡ given 1 = same_entry net entries y.0 second there.second f in
-    let e3 : third ≡ given 2 = same_entry net entries z.0 third there.third g in
-    let divisor : arith_may_divide_by_zero op (three first second third) ≡ arith_may_divide_by_zero op given = rw (e1, e2, e3) (divisor_of_three op given) in
-    let bounds : arith_bounds op sh (three first second third) ≡ arith_bounds op sh given = rw (e1, e2, e3) (bounds_of_three op sh given) in
-    ap (allowed_of kind Value) (is ∙ ap₂ (λ t n. cond t None (if_small n)) divisor bounds)
-    ∙ arith_allowed kind (is_smooth_operation op) (arith_may_divide_by_zero op given) (arith_bounds op sh given) there.ruled (λ away. proper_bounds op sh given there.ruled away (unsigned_step net entries i (OfBlock (Arith op v x y z sh)) valid allowed h here') (small_arguments net entries i (Arith op v x y z sh) valid allowed h here'))
-    ∙ ap (λ t. allowed_of kind Value (bounds_of net kind (OfBlock t) known)) (sym case)
+pub given_is : (net : NetData) (kind : Kind) (b : Block) (entries : List Bounds) (q : ℕ) (ty : Option Ty) (argument : ℕ) (found : Bounds) → ty ≡ type_read b q → argument ≡ argument_of b q → found ≡ cond (is_some ty) (entry_of net entries (value_part argument)) no_bounds → found ≡ bounds_at (bounds_read (block_rule net kind b Value).reads (entry_of net entries)) q
+given_is net kind b entries q ty argument found et ea e =
+    let reads = (block_rule net kind b Value).reads in
+    e ∙ rw (et, ea, some_type (types_read b) q) (by_number net kind b q (λ t. cond t (entry_of net entries (value_part (argument_of b q))) no_bounds ≡ bounds_at (bounds_read reads (entry_of net entries)) q)
+      (λ l. ap (entry_of net entries) (sym (part_read net kind b q l)) ∙ sym (given_at reads (entry_of net entries) q l))
+      (λ l. sym (given_past reads (entry_of net entries) q l)))
+
+pub given_small : (net : NetData) (kind : Kind) (b : Block) (entries : List Bounds) (q : ℕ) (ty : Option Ty) (argument : ℕ) (found : Bounds) → AreAllowedReads net (block_rule net kind b Value).reads entries → ty ≡ type_read b q → argument ≡ argument_of b q → found ≡ cond (is_some ty) (entry_of net entries (value_part argument)) no_bounds → IsSmall found
+given_small net kind b entries q ty argument found allowed et ea e =
+    rw (e, et, ea, some_type (types_read b) q) (by_number net kind b q (λ t. IsSmall (cond t (entry_of net entries (value_part (argument_of b q))) no_bounds))
+      (λ l. let a = allowed_entry net _ _ (subst (λ part. IsTrue (is_allowed_entry net part (entry_of net entries part))) (part_read net kind b q l) (allowed q l).1) in small_value net (argument_of b q) (entry_of net entries (value_part (argument_of b q))) a.between a.proper)
+      (λ l. small_none))
 
 -- points by their fields
 pub same_points : (a b c a' b' c' : ℕ) → a ≡ a' → b ≡ b' → c ≡ c' → ◌≡◌ {A = Points} (record { a = a; b = b; c = c }) (record { a = a'; b = b'; c = c' })
 same_points a b c a' b' c' p q r = ap₂ (λ (s t : ℕ). record { a = s; b = t; c = c }) p q ∙ ap (λ (t : ℕ). record { a = a'; b = b'; c = t }) r
 
-pub scaled_returns : (net : NetData) (entries : List Bounds) (i : ℕ) (b : Block) (op : ScaledOp) (v : Variant) (x y : WireNo) (r : Option Bounds) (points : Points) (first second : Bounds) → IsValid net → AreAllowed net entries → i < length net.wires → (wire_at net.wires i).item ≡ OfBlock b → b ≡ Scaled op v x y → points ≡ points_of net (wire_at net.wires i).kind (Scaled op v x y) → first ≡ entry_at entries x.0 → second ≡ entry_at entries y.0 → r ≡ cond (scaled_may_divide_by_zero op (two first second)) None (if_small (scaled_bounds op points (two first second))) → allowed_of (wire_at net.wires i).kind Value r ≡ allowed_of (wire_at net.wires i).kind Value (bounds_of net (wire_at net.wires i).kind (OfBlock b) (λ k. entry_of net entries k Value))
-unfolding proposed
-scaled_returns net entries i b op v x y r points first second valid allowed h here case p e f is =
+pub argument_there : (net : NetData) (i : ℕ) (b : Block) (q wire : ℕ) → IsValid net → i < length net.wires → (wire_at net.wires i).item ≡ OfBlock b → wire ≡ argument_of b q → wire < length net.wires
+argument_there net i b q wire valid h is same = rw same (omega (arith, argument_of-valid net i b valid h is q))
+
+-- ---- what is allowed of what a rule gives
+
+int_le-test : (a b : ℤ) (t : Bool) → int_le a b ≡ t → a ≤ℤ b → int_le a b ≡ true
+int_le-test a b true e h = e
+int_le-test a b false e h = absurd (omega (arith, ints, h, int_le-false a b e))
+
+-- bounds that are allowed for a value are small, where their range isn't empty and their error isn't negative
+is_small-from : (net : NetData) (wire : ℕ) (b : Bounds) → IsProper b → is_allowed net (value_part wire) b ≡ true → is_small b ≡ true
+unfolding is_small
+is_small-from net wire b proper h =
+    let kind = (wire_at net.wires wire).kind in
+    let t = are_between net (value_part wire) b h in
+    let low = int_le_trans _ _ _ (kind_least-low kind) t.low in
+    let high = int_le_trans _ _ _ t.high (kind_greatest-high kind) in
+    and_from _ _ (and_from _ _ (and_from _ _ (and_from _ _ (int_le-test _ _ _ refl low) (int_le-test _ _ _ refl proper.ordered)) (int_le-test _ _ _ refl high)) (int_le-test _ _ _ refl proper.positive)) t.near
+
+-- so leaving out the others leaves out nothing that is allowed
+leaves_out : (net : NetData) (wire : ℕ) (b : Bounds) (small is : Bool) → (is ≡ true → small ≡ true) → is_allowed net (value_part wire) b ≡ is → allowed_of net (value_part wire) (cond small (Some b) None) ≡ cond (is_allowed net (value_part wire) b) (Some b) None
+leaves_out net wire b true is h e = refl
+leaves_out net wire b false true h e = absurd (true≢false (sym (h refl)))
+leaves_out net wire b false false h e = rw e refl
+
+if_given : (net : NetData) (wire : ℕ) (fails : Bool) (b : Bounds) → (fails ≡ false → IsProper b) → allowed_of net (value_part wire) (cond fails None (if_small b)) ≡ allowed_of net (value_part wire) (cond fails None (Some b))
+if_given net wire true b proper = refl
+if_given net wire false b proper = leaves_out net wire b (is_small b) (is_allowed net (value_part wire) b) (is_small-from net wire b (proper refl)) refl
+
+-- the same is allowed of what is found of a block's value as of what its rule gives
+pub block_found : (net : NetData) (entries : List Bounds) (i : ℕ) (item read : Item) (b : Block) (found : Option Bounds) → IsValid net → i < length net.wires → item ≡ (wire_at net.wires i).item → item ≡ OfBlock b → AreAllowedReads net (block_rule net (wire_at net.wires i).kind b Value).reads entries → ((known : List Bounds) → known ≡ bounds_read (block_rule net (wire_at net.wires i).kind b Value).reads (entry_of net entries) → found ≡ cond ((block_rule net (wire_at net.wires i).kind b Value).fails known) None (if_small ((block_rule net (wire_at net.wires i).kind b Value).bounds known))) → allowed_of net (value_part i) found ≡ allowed_of net (value_part i) (given_by (part_rule net (value_part i)) (entry_of net entries))
+block_found net entries i item read b found valid h is case allowed e =
     let kind = (wire_at net.wires i).kind in
-    let known : ℕ → Bounds = λ k. entry_of net entries k Value in
-    let form = Scaled op v x y in
-    let given : ℕ → Bounds = arguments_of form known in
-    let there = scaled_there net i b op v x y valid h here case in
-    let e1 : first ≡ given 0 = same_entry net entries x.0 first there.first e in
-    let e2 : second ≡ given 1 = same_entry net entries y.0 second there.second f in
-    let divisor : scaled_may_divide_by_zero op (two first second) ≡ scaled_may_divide_by_zero op given = rw (e1, e2) (form_divisor_of_two op given) in
-    let bounds : scaled_bounds op points (two first second) ≡ scaled_bounds op (points_of net kind form) given = rw (e1, e2, p) (form_bounds_of_two op (points_of net kind form) given) in
-    ap (allowed_of kind Value) (is ∙ ap₂ (λ t n. cond t None (if_small n)) divisor bounds)
-    ∙ arith_allowed kind true (scaled_may_divide_by_zero op given) (scaled_bounds op (points_of net kind form) given) refl (λ away. proper_form_bounds op (points_of net kind form) given away (small_arguments net entries i form valid allowed h (here ∙ ap OfBlock case)))
-    ∙ ap (λ t. allowed_of kind Value (bounds_of net kind (OfBlock t) known)) (sym case)
+    let rule = block_rule net kind b Value in
+    let known = bounds_read rule.reads (entry_of net entries) in
+    let here : (wire_at net.wires i).item ≡ OfBlock b = sym is ∙ case in
+    let each : (q : ℕ) (l : q < length rule.reads) → is_allowed_entry net (reading_at rule.reads q).part (bounds_at known q) ≡ true = λ q l. rw (given_at rule.reads (entry_of net entries) q l) ((allowed q l).1) in
+    let proper : rule.fails known ≡ false → IsProper (rule.bounds known) = λ ruled. gives_proper rule (block_meaning net kind b) (FitReads net rule.reads) (blocks_keep net kind i b valid h here).sound known (λ q l. (allowed_entry net (reading_at rule.reads q).part (bounds_at known q) (each q l)).between.low) ruled (λ q l. (allowed_entry net (reading_at rule.reads q).part (bounds_at known q) (each q l)).proper) in
+    ap (allowed_of net (value_part i)) (e known refl)
+    ∙ if_given net i (rule.fails known) (rule.bounds known) proper
+    ∙ ap (λ t. allowed_of net (value_part i) (given_by (item_rule net kind t Value) (entry_of net entries))) (sym here)
 
 -- ---- the bounds of what isn't a block
 
 abbrev pub range_read : ℤ → ℤ → Bounds
 range_read lo hi = record { lo = to_z w64 (of_z w64 lo); hi = to_z w64 (of_z w64 hi); err = pos 0 }
 
-pub input_returns : (net : NetData) (kind : Kind) (item read : Item) (known : ℕ → Bounds) (lo hi : ℤ) → FitsSigned w64 lo → FitsSigned w64 hi → read ≡ item → read ≡ Input lo hi → allowed_of kind Value (Some (range_read lo hi)) ≡ allowed_of kind Value (bounds_of net kind item known)
-unfolding proposed
-input_returns net kind item read known lo hi f g same case =
-    let is : item ≡ Input lo hi = sym same ∙ case in
+pub input_returns : (net : NetData) (i : ℕ) (read : Item) (known : Part → Bounds) (lo hi : ℤ) → FitsSigned w64 lo → FitsSigned w64 hi → read ≡ (wire_at net.wires i).item → read ≡ Input lo hi → allowed_of net (value_part i) (Some (range_read lo hi)) ≡ allowed_of net (value_part i) (given_by (part_rule net (value_part i)) known)
+input_returns net i read known lo hi f g same case =
+    let is : (wire_at net.wires i).item ≡ Input lo hi = sym same ∙ case in
     rw (is, to_z-of_z w64 lo f, to_z-of_z w64 hi g) refl
 
-pub constant_returns : (net : NetData) (kind : Kind) (item read : Item) (known : ℕ → Bounds) (value : ℤ) → FitsSigned w64 value → read ≡ item → read ≡ Const value → allowed_of kind Value (Some (range_read value value)) ≡ allowed_of kind Value (bounds_of net kind item known)
-unfolding proposed
-constant_returns net kind item read known value f same case =
-    let is : item ≡ Const value = sym same ∙ case in
+pub constant_returns : (net : NetData) (i : ℕ) (read : Item) (known : Part → Bounds) (value : ℤ) → FitsSigned w64 value → read ≡ (wire_at net.wires i).item → read ≡ Const value → allowed_of net (value_part i) (Some (range_read value value)) ≡ allowed_of net (value_part i) (given_by (part_rule net (value_part i)) known)
+constant_returns net i read known value f same case =
+    let is : (wire_at net.wires i).item ≡ Const value = sym same ∙ case in
     rw (is, to_z-of_z w64 value f) refl
 
--- the item that was read is a block
-pub block_returns : (net : NetData) (kind : Kind) (item read : Item) (b : Block) (known : ℕ → Bounds) (found : Option Bounds) → read ≡ item → read ≡ OfBlock b → allowed_of kind Value found ≡ allowed_of kind Value (bounds_of net kind (OfBlock b) known) → allowed_of kind Value found ≡ allowed_of kind Value (bounds_of net kind item known)
-block_returns net kind item read b known found same case h =
-    h ∙ ap (λ t. allowed_of kind Value (bounds_of net kind t known)) (sym case ∙ same)
+-- ---- the rule of a part
 
--- ---- the rule of a wire's value
+-- of what was found the same is allowed as of what its rule gives
+abbrev IsFound : NetData → List Bounds → Part → Option Bounds → Type 0
+IsFound net entries part found = allowed_of net part found ≡ allowed_of net part (given_by (part_rule net part) (entry_of net entries))
 
--- of what was found the same is allowed as of the wire's bounds
-abbrev IsFound : NetData → List Bounds → ℕ → Option Bounds → Type 0
-IsFound net entries i found = allowed_of (wire_at net.wires i).kind Value found ≡ allowed_of (wire_at net.wires i).kind Value (bounds_of net (wire_at net.wires i).kind (wire_at net.wires i).item (λ k. entry_of net entries k Value))
-
-rule_of-bounds : (net : NetData) (entries : List Bounds) (i : ℕ) (found : Option Bounds) → IsFound net entries i found → allowed_of (wire_at net.wires i).kind Value found ≡ rule_of net i Value (entry_of net entries)
+rule_of-found : (net : NetData) (entries : List Bounds) (part : Part) (found : Option Bounds) → IsFound net entries part found → allowed_of net part found ≡ rule_of net part (entry_of net entries)
 unfolding rule_of
-rule_of-bounds net entries i found e = e
+rule_of-found net entries part found e = e
 
-pub rule_allowed : (net : NetData) (entries : List Bounds) (i : ℕ) (kind : Kind) (found : Option Bounds) (b : Bounds) (t : Bool) → IsFound net entries i found → found ≡ Some b → kind ≡ (wire_at net.wires i).kind → t ≡ is_allowed kind Value b → t ≡ true → Some b ≡ rule_of net i Value (entry_of net entries)
-rule_allowed net entries i kind found b t e is k f passed =
-    ap (λ u. cond u (Some b) None) (sym passed ∙ f ∙ ap (λ n. is_allowed n Value b) k) ∙ ap (allowed_of (wire_at net.wires i).kind Value) (sym is) ∙ rule_of-bounds net entries i found e
+pub rule_allowed : (net : NetData) (entries : List Bounds) (part : Part) (found : Option Bounds) (b : Bounds) (t : Bool) → IsFound net entries part found → found ≡ Some b → t ≡ is_allowed net part b → t ≡ true → Some b ≡ rule_of net part (entry_of net entries)
+rule_allowed net entries part found b t e is f passed =
+    ap (λ u. cond u (Some b) None) (sym passed ∙ f) ∙ ap (allowed_of net part) (sym is) ∙ rule_of-found net entries part found e
 
-pub rule_none : (net : NetData) (entries : List Bounds) (i : ℕ) (kind : Kind) (found : Option Bounds) (b : Bounds) (t : Bool) → IsFound net entries i found → found ≡ Some b → kind ≡ (wire_at net.wires i).kind → t ≡ is_allowed kind Value b → t ≡ false → None ≡ rule_of net i Value (entry_of net entries)
-rule_none net entries i kind found b t e is k f failed =
-    ap (λ u. cond u (Some b) None) (sym failed ∙ f ∙ ap (λ n. is_allowed n Value b) k) ∙ ap (allowed_of (wire_at net.wires i).kind Value) (sym is) ∙ rule_of-bounds net entries i found e
+pub rule_none : (net : NetData) (entries : List Bounds) (part : Part) (found : Option Bounds) (b : Bounds) (t : Bool) → IsFound net entries part found → found ≡ Some b → t ≡ is_allowed net part b → t ≡ false → None ≡ rule_of net part (entry_of net entries)
+rule_none net entries part found b t e is f failed =
+    ap (λ u. cond u (Some b) None) (sym failed ∙ f) ∙ ap (allowed_of net part) (sym is) ∙ rule_of-found net entries part found e
 
-pub rule_lacking : (net : NetData) (entries : List Bounds) (i : ℕ) (found : Option Bounds) → IsFound net entries i found → found ≡ None → None ≡ rule_of net i Value (entry_of net entries)
-rule_lacking net entries i found e is = ap (allowed_of (wire_at net.wires i).kind Value) (sym is) ∙ rule_of-bounds net entries i found e
+pub rule_lacking : (net : NetData) (entries : List Bounds) (part : Part) (found : Option Bounds) → IsFound net entries part found → found ≡ None → None ≡ rule_of net part (entry_of net entries)
+rule_lacking net entries part found e is = ap (allowed_of net part) (sym is) ∙ rule_of-found net entries part found e

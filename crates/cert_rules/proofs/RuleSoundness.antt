@@ -1,133 +1,164 @@
--- The rule of each wire is sound: no divisor is 0, and what its equation makes is within the bounds that its rule
--- proposes. Where these lie between the ends of its kind, saturation leaves it alone.
-use Rattle.std.specs.Prelude.{◌≡◌, ℕ, ◌<◌, Bool, true, false, not, ◌||◌, List, [], get_or, ℤ, pos, ◌≤ℤ◌, Option, Some, None}
-use Rattle.std.proofs.Common.{refl, true≢false}
+-- The rule of each part is sound, from entries of which those that it reads are allowed, and depends on what it reads alone.
+use Rattle.std.proofs.Common.{◌≡◌, ℕ, ◌<◌, Bool, true, false, cond, List, [], length, get_or, ℤ, pos, ◌≤ℤ◌, refl, sym, ap, ◌∙◌, subst, arith}
+use Rattle.std.specs.Prelude.{Option, Some, None, IsTrue}
 use Rattle.fx_fraction.specs.Fraction.{Fraction, whole}
 use Rattle.fx_fraction.proofs.WholeNumbers.{int_le_refl}
-use Rattle.fx_core.specs.declared.quotient.Mode.TheVariants.{Zero}
+use Rattle.fx_core.specs.declared.quotient.Mode.{Mode}
 use Rattle.fx_core.specs.Values.{Divides, rounded_fraction, unsaturated}
-use Rattle.fx_core.proofs.TypeLaws.{saturated_to-between}
-use Rattle.fx_routines.specs.declared.operation.ArithOp.{ArithOp}
-use Rattle.fx_routines.specs.declared.operation.Variant.{Variant}
-use Rattle.mfx_arith.specs.Formulas.{arith_formula, quotient_of as arith_quotient}
-use Rattle.mfx_arith.specs.Operations.{is_smooth_operation}
-use Rattle.net_model.specs.declared.wires.WireNo.{WireNo}
-use Rattle.fx_routines.specs.declared.operation.ScaledOp.{ScaledOp}
-use Rattle.mfx_scaled.specs.declared.binary_points.Points.{Points}
-use Rattle.mfx_scaled.specs.Formulas.{scaled_formula, quotient_of as scaled_quotient}
-use Rattle.net_model.specs.declared.wires.Kind.{Kind}
 use Rattle.net_model.specs.declared.wires.Block.{Block}
-use Rattle.net_model.specs.declared.wires.Block.TheVariants.{Arith, Scaled}
 use Rattle.net_model.specs.declared.wires.Item.{Item}
 use Rattle.net_model.specs.declared.wires.Item.TheVariants.{Input, Const, Block as OfBlock}
-use Rattle.net_model.specs.declared.wires.Wire.{Wire}
-use Rattle.net_model.specs.Wires.{NetData, wire_at, argument_of, input_place, kind_least, kind_greatest}
+use Rattle.net_model.specs.declared.wires.Role.{Role}
+use Rattle.net_model.specs.declared.wires.Role.TheVariants.{Value}
+use Rattle.net_model.specs.declared.wires.Part.{Part}
+use Rattle.net_model.specs.Wires.{NetData, wire_at, argument_of, input_place, kind_least, kind_greatest, parts_of}
+use Rattle.net_model.specs.Validity.{IsValid}
 use Rattle.net_meaning.specs.Cells.{Cell, wire_values}
-use Rattle.net_meaning.specs.Blocks.{as_fractions, exact, exact_cell, formula, machine, machine_cell, machine_state_of, points_of, quotient_of, state_formula, state_greatest, state_least}
-use Rattle.net_meaning.specs.Runs.{equation_of}
-use Rattle.net_meaning.specs.Promises.{ItemDivides, KeepsRange}
+use Rattle.net_meaning.specs.Blocks.{machine, exact, as_fractions, formula, quotient_of, mode_of}
+use Rattle.net_meaning.specs.Runs.{equation_of, equation}
+use Rattle.net_meaning.specs.Promises.{KeepsRange, ItemDivides}
 use Rattle.part_rules.specs.declared.bounds.Bounds.{Bounds}
-use Rattle.cert_rules.specs.Arguments.{arity_of}
 use Rattle.part_rules.specs.Within.{IsWithin}
+use Rattle.part_rules.specs.PartRules.{Reading, PartRule, bounds_at, bounds_read, given_by, read_now}
+use Rattle.part_rules.proofs.RuleLaws.{depends_on_reads}
 use Rattle.part_rules.proofs.Within.{itself_within}
-use Rattle.mfx_rules.specs.ArithRules.{arith_bounds, arith_may_divide_by_zero}
-use Rattle.mfx_rules.specs.ArithSoundness.{HasUnsignedStep, KeepsRule}
-use Rattle.mfx_rules.specs.ScaledRules.{scaled_bounds}
-use Rattle.mfx_rules.specs.ScaledSoundness.{FormKeepsRule}
-use Rattle.cert_rules.specs.Rules.{arguments_of, proposed, block_has_no_rule, has_no_rule}
-use Rattle.mfx_rules.proofs.ArithSoundnessProof.{arith_rules_are_sound}
-use Rattle.mfx_rules.proofs.ScaledSoundnessProof.{scaled_rules_are_sound}
+use Rattle.cert_rules.specs.Rules.{allowed_of, argument_part, block_rule, is_allowed, item_rule, part_rule, rule_of}
+use Rattle.cert_rules.specs.Certificates.{IsPart, entry_of, held_by}
+use Rattle.cert_rules.specs.Acceptance.{entry_at, is_allowed_entry, part_at}
+use Rattle.cert_rules.specs.Arguments.{AgreeFor, RulesReadTheirArguments, is_read, is_read_ever, reads_ago, reads_at, reads_of, rows_ago, rule_by}
+use Rattle.cert_rules.specs.GivenBounds.{AreAllowedReads, reading_at}
+use Rattle.cert_rules.specs.Soundness.{IsGiven, KeepsBounds, RulesAreSound, raw_by}
+use Rattle.cert_rules.proofs.BlockRules.{FitReads, block_exact, block_meaning, block_reads, block_value, blocks_keep, quotient_now, values_now, values_read}
+use Rattle.cert_rules.proofs.EntryFacts.{allowed_entry}
+use Rattle.cert_rules.proofs.Readings.{agree_on, given_at, has_number, numbered, read_ever, read_there}
+use Rattle.cert_rules.proofs.ReadParts.{is_orderly, values_at}
+use Rattle.cert_rules.proofs.RuleFacts.{allowed_reads}
 
--- what is sound about bounds, a cell of the machine and the exact cell
-pub record IsSound (net : NetData) (w : Wire) (item : Item) (b : Bounds) (m : ℕ → ℕ → Cell ℤ) (e : ℕ → ℕ → Cell Fraction) (cell : Cell ℤ) (exactly : Cell Fraction) : Type 0 where
-  pub machine_divides : ItemDivides net w item (as_fractions (wire_values m))
-  pub exact_divides : ItemDivides net w item (wire_values e)
-  pub within : IsWithin b cell.value_unsaturated exactly.value
+-- ---- a rule depends on what it reads
 
--- ---- whole numbers
+rule_same : (net : NetData) (part : Part) (one other : Part → Bounds) → given_by (part_rule net part) one ≡ given_by (part_rule net part) other → rule_of net part one ≡ rule_of net part other
+unfolding rule_of
+rule_same net part one other same = ap (allowed_of net part) same
+
+pub rules_read_their_arguments : RulesReadTheirArguments
+unfolding reads_at
+rules_read_their_arguments net valid p h one other agree =
+    let part = part_at net p in
+    rule_same net part one other (depends_on_reads (part_rule net part) one other (agree_on (reads_of net p) one other (λ q l.
+        let reading = reading_at (reads_of net p) q in
+        let number = has_number net reading.part (is_orderly net part valid (numbered net p h) q l).there in
+        let read = subst (λ t. IsTrue (is_read_ever (reads_of net p) t)) (sym number.there) (read_ever (reads_of net p) q l) in
+        subst (λ t. one t ≡ other t) number.there (agree number.number number.within read))))
+
+-- ---- a rule that gives bounds
+
+-- it doesn't fail, and these are what it proposes
+record IsRuled (rule : PartRule Part) (known : Part → Bounds) (bounds : Bounds) : Type 0 where
+  ruled : rule.fails (bounds_read rule.reads known) ≡ false
+  same : rule.bounds (bounds_read rule.reads known) ≡ bounds
+
+ruled_if : (rule : PartRule Part) (known : Part → Bounds) (bounds : Bounds) (fails : Bool) → rule.fails (bounds_read rule.reads known) ≡ fails → cond fails None (Some (rule.bounds (bounds_read rule.reads known))) ≡ Some bounds → IsRuled rule known bounds
+ruled_if rule known bounds true e h = absurd (cc)
+ruled_if rule known bounds false e h = let same : rule.bounds (bounds_read rule.reads known) ≡ bounds = cc in record { ruled = e; same = same }
+
+is_ruled : (rule : PartRule Part) (known : Part → Bounds) (bounds : Bounds) → given_by rule known ≡ Some bounds → IsRuled rule known bounds
+is_ruled rule known bounds h = ruled_if rule known bounds (rule.fails (bounds_read rule.reads known)) refl h
+
+-- what a rule gives that is allowed
+pub record IsAllowedGift (net : NetData) (part : Part) (given : Option Bounds) (bounds : Bounds) : Type 0 where
+  pub is : given ≡ Some bounds
+  pub allowed : is_allowed net part bounds ≡ true
+
+gift_if : (net : NetData) (part : Part) (b bounds : Bounds) (t : Bool) → is_allowed net part b ≡ t → cond t (Some b) None ≡ Some bounds → IsAllowedGift net part (Some b) bounds
+gift_if net part b bounds true e h = let same : b ≡ bounds = cc in record { is = ap Some same; allowed = rw same at e }
+gift_if net part b bounds false e h = absurd (cc)
+
+gift_of : (net : NetData) (part : Part) (given : Option Bounds) (bounds : Bounds) → allowed_of net part given ≡ Some bounds → IsAllowedGift net part given bounds
+gift_of net part None bounds h = absurd (cc)
+gift_of net part (Some b) bounds h = gift_if net part b bounds (is_allowed net part b) refl h
+
+pub rule_gift : (net : NetData) (part : Part) (known : Part → Bounds) (bounds : Bounds) → rule_of net part known ≡ Some bounds → IsAllowedGift net part (given_by (part_rule net part) known) bounds
+unfolding rule_of
+rule_gift net part known bounds h = gift_of net part (given_by (part_rule net part) known) bounds h
+
+-- ---- what the equation of a wire makes
+
+-- a part of wire i keeps to bounds
+pub record PartKeeps (net : NetData) (i : ℕ) (role : Role) (item : Item) (rows : List (List ℤ)) (m : ℕ → ℕ → Cell ℤ) (e : ℕ → ℕ → Cell Fraction) (bounds : Bounds) : Type 0 where
+  pub machine_divides : ItemDivides net (wire_at net.wires i) item (as_fractions (wire_values m))
+  pub exact_divides : ItemDivides net (wire_at net.wires i) item (wire_values e)
+  pub within : IsWithin bounds (raw_by role (equation_of machine net rows m i item)) (held_by role (equation_of exact net rows e i item))
 
 plain_within : (lo hi v : ℤ) → lo ≤ℤ v → v ≤ℤ hi → IsWithin (record { lo = lo; hi = hi; err = pos 0 }) v (whole v)
 plain_within lo hi v p q = record { low = p; high = q; near = itself_within v }
 
--- ---- blocks of Mfx arithmetic, and forms with binary points
-
-neither_fails : (smooth divides : Bool) → (not smooth || divides) ≡ false → (smooth ≡ true) × (divides ≡ false)
-neither_fails true true h = absurd (true≢false h)
-neither_fails true false h = (refl, refl)
-neither_fails false divides h = absurd (true≢false h)
-
--- each argument of a block is within its bounds
-abbrev ReadsWithin : Block → (ℕ → Bounds) → (ℕ → ℤ) → (ℕ → Fraction) → Type 0
-ReadsWithin b known m e = (p : ℕ) → p < arity_of b → IsWithin (known (argument_of b p)) (m p) (e p)
-
--- an operation keeps its rule where its block has one
-arith_keeps : (op : ArithOp) (v : Variant) (x y z : WireNo) (sh : ℕ) (known : ℕ → Bounds) (m : ℕ → ℤ) (e : ℕ → Fraction) → block_has_no_rule (Arith op v x y z sh) known ≡ false → HasUnsignedStep op (arguments_of (Arith op v x y z sh) known) → ReadsWithin (Arith op v x y z sh) known m e → KeepsRule op sh (arguments_of (Arith op v x y z sh) known) m e
-arith_keeps op v x y z sh known m e ruled step given =
-    let both = neither_fails (is_smooth_operation op) (arith_may_divide_by_zero op (arguments_of (Arith op v x y z sh) known)) ruled in
-    arith_rules_are_sound op both.0 sh (arguments_of (Arith op v x y z sh) known) m e both.1 step given
-
--- and so does a form with binary points
-form_keeps : (op : ScaledOp) (v : Variant) (x y : WireNo) (points : Points) (known : ℕ → Bounds) (m : ℕ → ℤ) (e : ℕ → Fraction) → block_has_no_rule (Scaled op v x y) known ≡ false → ReadsWithin (Scaled op v x y) known m e → FormKeepsRule op points (arguments_of (Scaled op v x y) known) m e
-form_keeps op v x y points known m e divides given = scaled_rules_are_sound op points (arguments_of (Scaled op v x y) known) m e divides given
-
 -- where no divisor is 0 the value before saturation is the formula rounded
-not_by_zero : (least greatest : ℤ) (q : Option (Fraction × Fraction)) (f : Fraction) → Divides q → unsaturated Zero least greatest q f ≡ rounded_fraction Zero f
-not_by_zero least greatest None f h = refl
-not_by_zero least greatest (Some q) f h = rw h refl
+not_by_zero : (mode : Mode) (least greatest : ℤ) (q : Option (Fraction × Fraction)) (f : Fraction) → Divides q → unsaturated mode least greatest q f ≡ rounded_fraction mode f
+not_by_zero mode least greatest None f h = refl
+not_by_zero mode least greatest (Some q) f h = rw h refl
 
-pub within_at : (b : Bounds) (v w : ℤ) (e : Fraction) → v ≡ w → IsWithin b w e → IsWithin b v e
-within_at b v w e same h = rw same h
+within_at : (b : Bounds) (v w : ℤ) (e f : Fraction) → v ≡ w → e ≡ f → IsWithin b w f → IsWithin b v e
+within_at b v w e f p q h = rw (p, q) h
 
--- ---- wires
+-- each part that is read is within its bounds, at the row at which it is read
+abbrev pub ReadsWithin : List (Reading Part) → (Part → Bounds) → (ℕ → ℕ → Cell ℤ) → (ℕ → ℕ → Cell Fraction) → Type 0
+ReadsWithin reads known m e =
+    (q : ℕ) → q < length reads → let reading = reading_at reads q in
+    IsWithin (known reading.part) (held_by reading.part.role (m (rows_ago reading) reading.part.wire.0)) (held_by reading.part.role (e (rows_ago reading) reading.part.wire.0))
 
--- what the rule of a wire's value reads is within its bounds
-abbrev pub ArgumentsWithin : Item → (ℕ → Bounds) → (ℕ → ℕ → Cell ℤ) → (ℕ → ℕ → Cell Fraction) → Type 0
-ArgumentsWithin (Input lo hi) known m e = Unit {0}
-ArgumentsWithin (Const value) known m e = Unit {0}
-ArgumentsWithin (OfBlock b) known m e = ReadsWithin b known (λ p. (m 0 (argument_of b p)).value) (λ p. (e 0 (argument_of b p)).value)
+-- the arguments of a block are within what its rule is given
+arguments_within : (net : NetData) (b : Block) (rule : PartRule Part) (known : Part → Bounds) (m : ℕ → ℕ → Cell ℤ) (e : ℕ → ℕ → Cell Fraction) → rule.reads ≡ values_read b → ReadsWithin rule.reads known m e → (q : ℕ) → q < length rule.reads → IsWithin (bounds_at (bounds_read rule.reads known) q) (values_now b m q) (values_now b e q)
+arguments_within net b rule known m e same within q l =
+    let l' : q < length (values_read b) = rw same at l in
+    let is : reading_at rule.reads q ≡ read_now (argument_part b q) = ap (λ r. reading_at r q) same ∙ values_at b q l' in
+    let here = subst (λ (r : Reading Part). IsWithin (known r.part) (held_by r.part.role (m (rows_ago r) r.part.wire.0)) (held_by r.part.role (e (rows_ago r) r.part.wire.0))) is (within q l) in
+    rw (given_at rule.reads known q l ∙ ap (λ r. known r.part) is) here
 
--- the step of a rate limiter isn't below 0
-abbrev pub ItemHasUnsignedStep : Item → (ℕ → Bounds) → Type 0
-ItemHasUnsignedStep (Input lo hi) known = Unit {0}
-ItemHasUnsignedStep (Const value) known = Unit {0}
-ItemHasUnsignedStep (OfBlock (Arith op v x y z sh)) known = HasUnsignedStep op (arguments_of (Arith op v x y z sh) known)
-ItemHasUnsignedStep (OfBlock (Scaled op v x y)) known = Unit {0}
+-- ---- the rule of a wire's value
 
-pub rule_is_sound : (net : NetData) (rows : List (List ℤ)) (i : ℕ) (item : Item) (known : ℕ → Bounds) (m : ℕ → ℕ → Cell ℤ) (e : ℕ → ℕ → Cell Fraction) → KeepsRange item (get_or (get_or rows 0 []) (input_place net.wires i) (pos 0)) → has_no_rule item known ≡ false → ItemHasUnsignedStep item known → ArgumentsWithin item known m e → IsSound net (wire_at net.wires i) item (proposed net (wire_at net.wires i).kind item known) m e (equation_of machine net rows m i item) (equation_of exact net rows e i item)
-unfolding equation_of proposed machine exact machine_cell exact_cell machine_state_of state_formula quotient_of formula
-rule_is_sound net rows i (Input lo hi) known m e keeps ruled step given = record { machine_divides = tt; exact_divides = tt; within = plain_within lo hi _ keeps.0 keeps.1 }
-rule_is_sound net rows i (Const value) known m e keeps ruled step given = record { machine_divides = tt; exact_divides = tt; within = plain_within value value value (int_le_refl value) (int_le_refl value) }
-rule_is_sound net rows i (OfBlock (Arith op v x y z sh)) known m e keeps ruled step given =
-    let b = Arith op v x y z sh in
+input_keeps : (net : NetData) (i : ℕ) (lo hi : ℤ) (rows : List (List ℤ)) (m : ℕ → ℕ → Cell ℤ) (e : ℕ → ℕ → Cell Fraction) → KeepsRange (Input lo hi) (get_or (get_or rows 0 []) (input_place net.wires i) (pos 0)) → PartKeeps net i Value (Input lo hi) rows m e (record { lo = lo; hi = hi; err = pos 0 })
+unfolding equation_of machine exact
+input_keeps net i lo hi rows m e keeps = record { machine_divides = tt; exact_divides = tt; within = plain_within lo hi (get_or (get_or rows 0 []) (input_place net.wires i) (pos 0)) keeps.0 keeps.1 }
+
+const_keeps : (net : NetData) (i : ℕ) (value : ℤ) (rows : List (List ℤ)) (m : ℕ → ℕ → Cell ℤ) (e : ℕ → ℕ → Cell Fraction) → PartKeeps net i Value (Const value) rows m e (record { lo = value; hi = value; err = pos 0 })
+unfolding equation_of machine exact
+const_keeps net i value rows m e = record { machine_divides = tt; exact_divides = tt; within = plain_within value value value (int_le_refl value) (int_le_refl value) }
+
+item_keeps : (net : NetData) (i : ℕ) (item : Item) (known : Part → Bounds) (rows : List (List ℤ)) (m : ℕ → ℕ → Cell ℤ) (e : ℕ → ℕ → Cell Fraction) (bounds : Bounds) → IsValid net → i < length net.wires → (wire_at net.wires i).item ≡ item → KeepsRange item (get_or (get_or rows 0 []) (input_place net.wires i) (pos 0)) → FitReads net (item_rule net (wire_at net.wires i).kind item Value).reads (bounds_read (item_rule net (wire_at net.wires i).kind item Value).reads known) → ReadsWithin (item_rule net (wire_at net.wires i).kind item Value).reads known m e → given_by (item_rule net (wire_at net.wires i).kind item Value) known ≡ Some bounds → PartKeeps net i Value item rows m e bounds
+item_keeps net i (Input lo hi) known rows m e bounds valid h is keeps fit within given =
+    subst (λ b. PartKeeps net i Value (Input lo hi) rows m e b) (is_ruled (item_rule net (wire_at net.wires i).kind (Input lo hi) Value) known bounds given).same (input_keeps net i lo hi rows m e keeps)
+item_keeps net i (Const value) known rows m e bounds valid h is keeps fit within given =
+    subst (λ b. PartKeeps net i Value (Const value) rows m e b) (is_ruled (item_rule net (wire_at net.wires i).kind (Const value) Value) known bounds given).same (const_keeps net i value rows m e)
+item_keeps net i (OfBlock b) known rows m e bounds valid h is keeps fit within given =
     let kind = (wire_at net.wires i).kind in
-    let holds = arith_keeps op v x y z sh known (λ p. (m 0 (argument_of b p)).value) (λ p. (e 0 (argument_of b p)).value) ruled step given in
+    let rule = block_rule net kind b Value in
+    let r = is_ruled rule known bounds given in
+    let k = (blocks_keep net kind i b valid h is).sound (bounds_read rule.reads known) (values_now b m) (values_now b e) fit r.ruled (arguments_within net b rule known m e (block_reads net kind b) within) in
+    let quotient = quotient_of net kind b (λ p ago. whole (values_now b m p)) in
     record {
-      machine_divides = holds.machine_divides;
-      exact_divides = holds.exact_divides;
-      within = within_at (arith_bounds op sh (arguments_of b known)) _ _ _ (not_by_zero (kind_least kind) (kind_greatest kind) (arith_quotient op sh (λ p. whole (m 0 (argument_of b p)).value)) (arith_formula op sh (λ p. whole (m 0 (argument_of b p)).value)) holds.machine_divides) holds.within;
-    }
-rule_is_sound net rows i (OfBlock (Scaled op v x y)) known m e keeps ruled step given =
-    let b = Scaled op v x y in
-    let kind = (wire_at net.wires i).kind in
-    let points = points_of net kind b in
-    let holds = form_keeps op v x y points known (λ p. (m 0 (argument_of b p)).value) (λ p. (e 0 (argument_of b p)).value) ruled given in
-    record {
-      machine_divides = holds.machine_divides;
-      exact_divides = holds.exact_divides;
-      within = within_at (scaled_bounds op points (arguments_of b known)) _ _ _ (not_by_zero (kind_least kind) (kind_greatest kind) (scaled_quotient op points (λ p. whole (m 0 (argument_of b p)).value)) (scaled_formula op points (λ p. whole (m 0 (argument_of b p)).value)) holds.machine_divides) holds.within;
+      machine_divides = rw (quotient_now net kind b (as_fractions (wire_values m))) k.machine_divides;
+      exact_divides = rw (quotient_now net kind b (wire_values e)) k.exact_divides;
+      within = within_at bounds _ _ _ _ (block_value net rows i b m ∙ not_by_zero (mode_of b) (kind_least kind) (kind_greatest kind) quotient (formula net kind b (λ p ago. whole (values_now b m p)) (whole (pos 0))) k.machine_divides) (block_exact net rows i b e) (rw r.same at k.within);
     }
 
--- ---- saturation
+-- ---- the rule of a part
 
--- saturation leaves a value between the ends of its kind alone, and no built block has a state
-pub record IsKept (kind : Kind) (cell : Cell ℤ) : Type 0 where
-  pub kept : kind_least kind ≤ℤ cell.value_unsaturated → cell.value_unsaturated ≤ℤ kind_greatest kind → cell.value ≡ cell.value_unsaturated
-  pub state_low : state_least ≤ℤ cell.state_unsaturated
-  pub state_high : cell.state_unsaturated ≤ℤ state_greatest
+part_keeps : (net : NetData) (i : ℕ) (role : Role) (known : Part → Bounds) (rows : List (List ℤ)) (m : ℕ → ℕ → Cell ℤ) (e : ℕ → ℕ → Cell Fraction) (bounds : Bounds) → let part : Part = record { wire = record { 0 = i }; role = role } in IsValid net → i < length net.wires → KeepsRange (wire_at net.wires i).item (get_or (get_or rows 0 []) (input_place net.wires i) (pos 0)) → FitReads net (part_rule net part).reads (bounds_read (part_rule net part).reads known) → ReadsWithin (part_rule net part).reads known m e → given_by (part_rule net part) known ≡ Some bounds → PartKeeps net i role (wire_at net.wires i).item rows m e bounds
+part_keeps net i Value known rows m e bounds valid h keeps fit within given = item_keeps net i (wire_at net.wires i).item known rows m e bounds valid h refl keeps fit within given
 
-pub equation_keeps : (net : NetData) (rows : List (List ℤ)) (i : ℕ) (item : Item) (m : ℕ → ℕ → Cell ℤ) → IsKept (wire_at net.wires i).kind (equation_of machine net rows m i item)
-unfolding equation_of machine machine_cell machine_state_of state_formula
-equation_keeps net rows i (Input lo hi) m = record { kept = λ _ _. refl; state_low = record { le = tt }; state_high = record { le = tt } }
-equation_keeps net rows i (Const value) m = record { kept = λ _ _. refl; state_low = record { le = tt }; state_high = record { le = tt } }
-equation_keeps net rows i (OfBlock (Arith op v x y z sh)) m = record { kept = saturated_to-between _ _ _; state_low = record { le = tt }; state_high = record { le = tt } }
-equation_keeps net rows i (OfBlock (Scaled op v x y)) m = record { kept = saturated_to-between _ _ _; state_low = record { le = tt }; state_high = record { le = tt } }
+pub rules_are_sound : RulesAreSound
+unfolding reads_ago
+rules_are_sound net valid entries p h allowed rows m e keeps given bounds rules =
+    let part = part_at net p in
+    let reads = reads_of net p in
+    let there = numbered net p h in
+    let reads_allowed = allowed_reads net entries p valid h allowed in
+    let fit : FitReads net reads (bounds_read reads (entry_of net entries)) = λ q l. rw (given_at reads (entry_of net entries) q l) ((allowed_entry net (reading_at reads q).part (entry_of net entries (reading_at reads q).part) (reads_allowed q l).1).between.low) in
+    let within : ReadsWithin reads (entry_of net entries) m e = λ q l.
+        let reading = reading_at reads q in
+        let number = has_number net reading.part (is_orderly net part valid there q l).there in
+        let read = subst (λ t. IsTrue (is_read reads t (rows_ago reading))) (sym number.there) (read_there reads q l) in
+        let held = subst (λ (t : Part). IsWithin (entry_at entries number.number) (held_by t.role (m (rows_ago reading) t.wire.0)) (held_by t.role (e (rows_ago reading) t.wire.0))) number.there (given number.number (rows_ago reading) number.within read) in
+        rw (number.entry entries) held in
+    let k = part_keeps net part.wire.0 part.role (entry_of net entries) rows m e bounds valid there.wire keeps fit within (rule_gift net part (entry_of net entries) bounds rules).is in
+    record { machine_divides = k.machine_divides; exact_divides = k.exact_divides; within = k.within }

@@ -4,4 +4,5 @@ pub mod Acceptance
 pub mod Proper
 pub mod Arguments
 pub mod Soundness
+pub mod GivenBounds
 pub mod Theorem

@@ -1,5 +1,5 @@
 -- The rule of each part: what it reads, and the bounds that it gives from those of what it reads.
-use Rattle.std.specs.Prelude.{ℕ, ◌^◌, Bool, false, ◌&&◌, List, [], ℤ, pos, int_le, int_lt, Option, Some, None, if◌then◌else◌}
+use Rattle.std.specs.Prelude.{ℕ, ◌^◌, Bool, ◌&&◌, ℤ, pos, int_le, int_lt, Option, Some, None, if◌then◌else◌}
 use Rattle.net_model.specs.declared.wires.Kind.{Kind}
 use Rattle.net_model.specs.declared.wires.Block.{Block}
 use Rattle.net_model.specs.declared.wires.Block.TheVariants.{Arith, Scaled}
@@ -11,7 +11,7 @@ use Rattle.net_model.specs.declared.wires.Part.{Part}
 use Rattle.net_model.specs.Wires.{NetData, wire_at, kind_least, kind_greatest, argument_of}
 use Rattle.net_meaning.specs.Blocks.{points_of}
 use Rattle.part_rules.specs.declared.bounds.Bounds.{Bounds}
-use Rattle.part_rules.specs.PartRules.{PartRule, renamed, given_by}
+use Rattle.part_rules.specs.PartRules.{PartRule, fixed_rule, given_by, renamed}
 use Rattle.mfx_rules.specs.OperationRules.{arith_rule, scaled_rule}
 
 -- ---- which bounds a part may have
@@ -61,10 +61,6 @@ block_rule net kind (Arith op v x y z shift) Value =
     renamed (argument_part (Arith op v x y z shift)) (arith_rule op shift)
 block_rule net kind (Scaled op v x y) Value =
     let b = Scaled op v x y in renamed (argument_part b) (scaled_rule op (points_of net kind b))
-
--- a rule that reads nothing: the range from lo to hi, without an error
-abbrev pub fixed_rule : ℤ → ℤ → PartRule Part
-fixed_rule lo hi = record { reads = []; fails = λ given. false; bounds = λ given. record { lo = lo; hi = hi; err = pos 0 } }
 
 -- the rule of a part of a wire with this kind and item
 abbrev pub item_rule : NetData → Kind → Item → Role → PartRule Part

@@ -1,13 +1,15 @@
 // Which parts the rule of a part reads.
 
-ghost use Rattle.std.specs.Prelude.{◌≡◌, ◌<◌, length, slice_get};
-ghost use Rattle.net_model.specs.Wires.{parts_of, same_role};
-ghost use Rattle.cert_rules.specs.Arguments.{RulesReadTheirArguments, arity_of, is_among_first, read_by, reads, reads_at};
+ghost use Rattle.std.specs.Prelude.{◌≡◌, ◌<◌, ◌&&◌, is_some, length, slice_get};
+ghost use Rattle.net_model.specs.declared.wires.Kind.{Kind};
+ghost use Rattle.net_model.specs.Wires.{NetData, is_part, parts_of, same_role};
+ghost use Rattle.cert_rules.specs.Arguments.{RulesReadTheirArguments, is_read_ever, read_by, reads_at};
+ghost use Rattle.cert_rules.specs.GivenBounds.{value_part};
+ghost use Rattle.cert_rules.specs.Rules.{block_rule, item_rule};
 
 use crate::lookups::{item_at, part_numbered};
-use mfx_arith::ArithOp;
-use mfx_scaled::ScaledOp;
-use net_model::{Block, Item, Network, Part, PartNo, Role, WireNo};
+use fx_core::Ty;
+use net_model::{Block, Item, Network, Part, PartNo, Role, WireNo, arguments_of, types_read};
 
 /// The part of number `i`, from 0, among those whose bounds a part's rule reads, in the order of the network
 /// and each once: None where the rule reads no more than `i`.
@@ -38,52 +40,49 @@ fn reads_at(net: &Network, part: PartNo, other: PartNo) -> bool
     requires other { other.0 < length (parts_of net.now.wires) }
     ensures { result ≡ reads_at net.now part.0 other.0 }
 {
-    let wire = part_numbered(net, part).wire;
-    reads(item_at(net, wire), part_numbered(net, other))
+    let part = part_numbered(net, part);
+    reads(item_at(net, part.wire), part.role, part_numbered(net, other))
 }
 
-/// Whether the rule of a part of a wire with this item reads another part.
-fn reads(item: Item, part: Part) -> bool
-    ensures { (ruled : Part) → result ≡ reads item ruled part }
+/// Whether the rule of a part of this role, on a wire with this item, reads another part.
+fn reads(item: Item, role: Role, other: Part) -> bool
+    ensures { (net : NetData) (kind : Kind) → result ≡ is_read_ever (item_rule net kind item role).reads other }
+{
+    match role {
+        Role::Value => value_reads(item, other),
+    }
+}
+
+/// The same of a wire's value.
+fn value_reads(item: Item, other: Part) -> bool
+    ensures { (net : NetData) (kind : Kind) → result ≡ is_read_ever (item_rule net kind item Role.Value).reads other }
 {
     match item {
         Item::Input { .. } | Item::Const { .. } => false,
-        Item::Block(block) => has_argument(block, part.wire) && same_role(part.role, Role::Value),
+        Item::Block(block) => block_reads(&block, other),
     }
+}
+
+/// The same of a block's value: it reads the value of each argument that the block has.
+fn block_reads(block: &Block, other: Part) -> bool
+    ensures { (net : NetData) (kind : Kind) → result ≡ is_read_ever (block_rule net kind block.now Role.Value).reads other }
+{
+    let types = types_read(*block);
+    let arguments = arguments_of(*block);
+    is_argument(types.x, arguments.x, other)
+        || is_argument(types.y, arguments.y, other)
+        || is_argument(types.z, arguments.z, other)
+}
+
+/// Whether a part is the value of an argument that the block has.
+fn is_argument(ty: Option<Ty>, argument: WireNo, other: Part) -> bool
+    ensures { result ≡ (is_some ty && is_part other.wire.0 other.role (value_part argument.0)) }
+{
+    ty.is_some() && argument.0 == other.wire.0 && same_role(Role::Value, other.role)
 }
 
 fn same_role(one: Role, other: Role) -> bool
     ensures { result ≡ same_role one other }
 {
     one == other
-}
-
-/// Whether a wire is an argument of a block: what the block doesn't have isn't looked at.
-fn has_argument(block: Block, wire: WireNo) -> bool
-    ensures { result ≡ is_among_first block (arity_of block) wire.0 }
-{
-    match block {
-        Block::Arith { op, x, y, z, .. } => match op {
-            ArithOp::Abs => x.0 == wire.0,
-            ArithOp::MulDiv | ArithOp::Limit | ArithOp::RateLimiter => {
-                x.0 == wire.0 || y.0 == wire.0 || z.0 == wire.0
-            }
-            ArithOp::Add
-            | ArithOp::Sub
-            | ArithOp::AbsDiff
-            | ArithOp::Mul
-            | ArithOp::Div
-            | ArithOp::Mod
-            | ArithOp::MulShRight
-            | ArithOp::DivShLeft
-            | ArithOp::Min
-            | ArithOp::Max => x.0 == wire.0 || y.0 == wire.0,
-        },
-        Block::Scaled { op, x, y, .. } => match op {
-            ScaledOp::Convert => x.0 == wire.0,
-            ScaledOp::Add | ScaledOp::Sub | ScaledOp::AbsDiff | ScaledOp::Mul | ScaledOp::Div => x.0
-                == wire.0
-                || y.0 == wire.0,
-        },
-    }
 }

@@ -1,34 +1,65 @@
 // Which bounds are allowed for a part.
 
 ghost use Rattle.std.specs.Prelude.{◌≡◌, ◌<◌, ◌&&◌, length, int_le, int_lt};
-ghost use Rattle.net_model.specs.Wires.{parts_of, wire_at};
-ghost use Rattle.cert_rules.specs.Rules.{is_allowed, part_greatest, part_least};
+ghost use Rattle.net_model.specs.Wires.{kind_greatest, kind_least, parts_of, wire_at};
+ghost use Rattle.cert_rules.specs.Rules.{cap_of_role, greatest_by_role, greatest_of_part, is_allowed, least_by_role, least_of_part};
 ghost use Rattle.cert_rules.specs.Acceptance.{part_at};
 
-use part_rules::Bounds;
 use crate::lookups::{kind_at, part_numbered};
-use net_model::{Kind, Network, PartNo, Role};
+use net_model::{Kind, Network, Part, PartNo, Role};
+use part_rules::Bounds;
 
-/// What the error of a wire's value has to be below, in units of 1/65536 of a raw count.
-const ERROR_CAP: i64 = 1 << 40;
+/// The least and the greatest value of a part.
+#[derive(Clone, Copy)]
+struct Ends {
+    least: i64,
+    greatest: i64,
+}
 
 /// Whether bounds are allowed for a part: both ends of the range lie between the ends of the part, and the
 /// error is below its cap.
 pub fn allowed(net: &Network, part: PartNo, b: Bounds) -> bool
     requires { part.0 < length (parts_of net.now.wires) }
-    ensures { let p = part_at net.now part.0 in
-        result ≡ is_allowed (wire_at net.now.wires p.wire.0).kind p.role b }
+    ensures { result ≡ is_allowed net.now (part_at net.now part.0) b }
 {
     let part = part_numbered(net, part);
-    is_within_limits(kind_at(net, part.wire), part.role, b)
+    let ends = ends_of_part(net, part);
+    is_inside(ends.least, ends.greatest, cap_of_role(part.role), b)
 }
 
-/// The same for a part of that role on a wire of that kind.
-pub(crate) fn is_within_limits(kind: Kind, role: Role, b: Bounds) -> bool
-    ensures { result ≡ is_allowed kind role b }
+/// The ends of a part.
+fn ends_of_part(net: &Network, part: Part) -> Ends
+    requires { part.wire.0 < length net.now.wires }
+    ensures least { result.least ≡ least_of_part net.now part }
+    ensures greatest { result.greatest ≡ greatest_of_part net.now part }
+{
+    match part.role {
+        Role::Value => ends_of_kind(kind_at(net, part.wire)),
+    }
+}
+
+fn ends_of_kind(kind: Kind) -> Ends
+    ensures least { result.least ≡ kind_least kind }
+    ensures greatest { result.greatest ≡ kind_greatest kind }
+{
+    match kind {
+        Kind::Num(ty, _) => Ends {
+            least: ty.least(),
+            greatest: ty.greatest(),
+        },
+        Kind::Truth => Ends {
+            least: 0,
+            greatest: 1,
+        },
+    }
+}
+
+/// What the error of a part has to be below, in units of 1/65536 of a raw count.
+fn cap_of_role(role: Role) -> i64
+    ensures { result ≡ cap_of_role role }
 {
     match role {
-        Role::Value => is_inside(least(kind), greatest(kind), ERROR_CAP, b),
+        Role::Value => 1 << 40,
     }
 }
 
@@ -50,22 +81,4 @@ fn is_between(least: i64, greatest: i64, number: i64) -> bool
     ensures { result ≡ (int_le least number && int_le number greatest) }
 {
     least <= number && number <= greatest
-}
-
-fn least(kind: Kind) -> i64
-    ensures { result ≡ part_least kind Role.Value }
-{
-    match kind {
-        Kind::Num(ty, _) => ty.least(),
-        Kind::Truth => 0,
-    }
-}
-
-fn greatest(kind: Kind) -> i64
-    ensures { result ≡ part_greatest kind Role.Value }
-{
-    match kind {
-        Kind::Num(ty, _) => ty.greatest(),
-        Kind::Truth => 1,
-    }
 }

@@ -1,12 +1,25 @@
 // What the rules read of a network and of a certificate's entries.
 
-ghost use Rattle.std.specs.Prelude.{◌≡◌, ◌<◌, ◌≤◌, length};
+ghost use Rattle.std.specs.Prelude.{◌≡◌, ◌<◌, ◌≤◌, is_some, length, if◌then◌else◌};
 ghost use Rattle.net_model.specs.Wires.{parts_of, point_of, wire_at};
 ghost use Rattle.net_model.specs.Validity.{IsValid};
-ghost use Rattle.cert_rules.specs.Acceptance.{entry_at, part_at};
+ghost use Rattle.part_rules.specs.PartRules.{bounds_read};
+ghost use Rattle.part_rules.specs.Within.{no_bounds};
+ghost use Rattle.cert_rules.specs.Acceptance.{part_at};
+ghost use Rattle.cert_rules.specs.Certificates.{entry_of};
+ghost use Rattle.cert_rules.specs.GivenBounds.{AreAllowedReads, AreGiven, AreSmall, value_part};
+ghost use Rattle.cert_rules.specs.Rules.{block_rule};
 
 use part_rules::Bounds;
-use net_model::{Item, Kind, Network, Part, PartNo, WireNo};
+use fx_core::Ty;
+use net_model::{Block, Item, Kind, Network, Part, PartNo, Role, WireNo, arguments_of, types_read};
+
+/// What stands for bounds where there are none.
+const NO_BOUNDS: Bounds = Bounds {
+    lo: 0,
+    hi: 0,
+    err: 0,
+};
 
 /// The part of a number.
 pub(crate) fn part_numbered(net: &Network, part: PartNo) -> Part
@@ -47,10 +60,57 @@ pub(crate) fn point_at(net: &Network, wire: WireNo) -> u8
     }
 }
 
-/// The entry of a wire's value. A wire has no other part, so the entry's number is the wire's.
-pub(crate) fn value_entry(entries: &[Bounds], wire: WireNo) -> Bounds
-    requires { wire.0 < length entries.now }
-    ensures { result ≡ entry_at entries.now wire.0 }
+/// The bounds of what the rule of a block's value reads, in its order; no bounds behind the last.
+#[derive(Clone, Copy)]
+pub(crate) struct Given {
+    pub first: Bounds,
+    pub second: Bounds,
+    pub third: Bounds,
+}
+
+/// The bounds that the rule of a block's value is given.
+pub(crate) fn given_to(net: &Network, wire: WireNo, block: &Block, all: &[Bounds]) -> Given
+    requires valid { IsValid net.now }
+    requires there { wire.0 < length net.now.wires }
+    requires block { (wire_at net.now.wires wire.0).item ≡ Item.Block block.now }
+    requires complete { length all.now ≡ length (parts_of net.now.wires) }
+    requires allowed { AreAllowedReads net.now (block_rule net.now (wire_at net.now.wires wire.0).kind block.now Role.Value).reads all.now }
+    ensures given { let reads = (block_rule net.now (wire_at net.now.wires wire.0).kind block.now Role.Value).reads in
+        AreGiven result (bounds_read reads (entry_of net.now all.now)) }
+    ensures small { AreSmall result }
 {
-    entries[wire.0 as usize]
+    let types = types_read(*block);
+    let arguments = arguments_of(*block);
+    let first = entry_if(types.x, net, arguments.x, all);
+    let second = entry_if(types.y, net, arguments.y, all);
+    let third = entry_if(types.z, net, arguments.z, all);
+    Given {
+        first,
+        second,
+        third,
+    }
+}
+
+/// The entry of an argument's value; no bounds where the block doesn't have the argument.
+fn entry_if(ty: Option<Ty>, net: &Network, argument: WireNo, all: &[Bounds]) -> Bounds
+    requires there { argument.0 < length net.now.wires }
+    requires complete { length all.now ≡ length (parts_of net.now.wires) }
+    ensures { result ≡ (if is_some ty then entry_of net.now all.now (value_part argument.0) else no_bounds) }
+{
+    match ty {
+        Some(_) => value_entry(net, argument, all),
+        None => NO_BOUNDS,
+    }
+}
+
+/// The entry of a wire's value.
+fn value_entry(net: &Network, wire: WireNo, entries: &[Bounds]) -> Bounds
+    requires there { wire.0 < length net.now.wires }
+    requires complete { length entries.now ≡ length (parts_of net.now.wires) }
+    ensures { result ≡ entry_of net.now entries.now (value_part wire.0) }
+{
+    match net.part_of(wire, Role::Value) {
+        Some(part) => entries[part.0 as usize],
+        None => unreachable!(),
+    }
 }

@@ -1,41 +1,63 @@
--- The values of the steps are those of the machine's row.
-use Rattle.std.proofs.Common.{◌≡◌, ℕ, zero, suc, ◌+◌, ◌<◌, ◌≤◌, true, List, [], ◌∷◌, ◌++◌, map, length, get_or, take, ℤ, pos, refl, sym, ap, ap₂, ◌∙◌, subst, arith, cond, inl, inr}
-use Rattle.std.specs.Prelude.{Option, Some, None, IfSome, slice_get}
+-- What the steps make of a row is what the machine does: values, outputs, and what is kept behind it.
+use Rattle.std.proofs.Common.{◌≡◌, ℕ, zero, suc, ◌<◌, ◌≤◌, List, [], ◌∷◌, ◌++◌, map, length, drop, get_or, take, ℤ, pos, refl, sym, ap, ap₂, ◌∙◌, subst, arith, inl, inr}
 use Rattle.std.proofs.lemmas.Bool.{cases_eq}
 use Rattle.std.proofs.lemmas.List.{get_or_append_left, get_or_push, length_push, map-append}
-use Rattle.std.proofs.lemmas.List.Recursion.{is_count_by}
-use Rattle.std.proofs.Math.ListN.{get_or-map}
-use Rattle.fx_core.specs.declared.word_type.Ty.{Ty}
-use Rattle.fx_core.specs.Types.{Holds}
-use Rattle.fx_core.specs.Values.{value_in}
-use Rattle.fx_core.proofs.TypeLaws.{saturated_held}
-use Rattle.mfx_arith.specs.Operations.{argument_types}
-use Rattle.mfx_arith.specs.Calls.{arith_value}
-use Rattle.mfx_scaled.specs.Calls.{scaled_value}
-use Rattle.mfx_scaled.specs.Operations.{argument_types as scaled_types}
+use Rattle.std.proofs.lemmas.List.FromFn.{length-map-range_with_len}
 use Rattle.net_model.specs.declared.wires.WireNo.{WireNo}
-use Rattle.net_model.specs.declared.wires.Kind.{Kind}
-use Rattle.net_model.specs.declared.wires.Kind.TheVariants.{Num}
-use Rattle.net_model.specs.declared.wires.Block.TheVariants.{Arith, Scaled}
-use Rattle.net_model.specs.declared.wires.Item.{Item}
-use Rattle.net_model.specs.declared.wires.Item.TheVariants.{Input, Const, Block as OfBlock}
-use Rattle.net_model.specs.declared.wires.Wire.{Wire}
-use Rattle.net_model.specs.Wires.{NetData, wire_at, argument_of, is_input, input_place, with_input, inputs_from, inputs_of}
+use Rattle.net_model.specs.Wires.{NetData, wire_at, inputs_of}
 use Rattle.net_model.specs.Validity.{IsValid}
-use Rattle.net_model.proofs.ValidityFacts.{IsInKind, in_kind, IsGoodArgument, const-valid, arith-valid, scaled-valid, number_kind, point_of-valid}
-use Rattle.net_model.proofs.BuiltFacts.{shift_from_test}
+use Rattle.net_model.proofs.ValidityFacts.{IsInKind}
 use Rattle.net_meaning.specs.Cells.{Cell, plain, cell_at}
-use Rattle.net_meaning.specs.Blocks.{machine, machine_cell, formula, state_formula, quotient_of, points_of}
-use Rattle.net_meaning.specs.Runs.{equation, equation_of, row_of, table}
-use Rattle.net_eval.specs.declared.resolving.Step.{Step}
-use Rattle.net_eval.specs.declared.resolving.Step.TheVariants.{Read}
-use Rattle.net_eval.specs.After.{PlanData, IsAfter, kept_by, kept_from, outputs_of}
-use Rattle.net_eval.specs.Steps.{item_step, steps_of, step_at, step_value, value_at, values_of, IsReady, AreReady}
+use Rattle.net_meaning.specs.Blocks.{machine}
+use Rattle.net_meaning.specs.Runs.{equation, row_of, table}
+use Rattle.net_eval.specs.declared.states.State.{State}
+use Rattle.net_eval.specs.declared.states.State.TheVariants.{Nothing}
+use Rattle.net_eval.specs.declared.steps.Step.{Step}
+use Rattle.net_eval.specs.declared.steps.Step.TheVariants.{Read}
+use Rattle.net_eval.specs.After.{PlanData, IsAfter, kept_on, kept_of, outputs_of}
+use Rattle.net_eval.specs.States.{AreKept, MayKeep, start_of, starts_of, state_at}
+use Rattle.net_eval.specs.Steps.{ArePlanned, AreReady, IsReady, step_of, steps_of, step_at, step_value, state_behind, kept_behind, states_of, value_at, values_of}
 use Rattle.net_eval.specs.Picking.{AreBelow}
 use Rattle.net_eval.specs.Typing.{AreTyped}
+use Rattle.net_eval.proofs.Listings.{list_at, list_same, written_back}
 use Rattle.net_eval.proofs.StepFacts.{outs_below}
-use Rattle.net_eval.proofs.ArithSteps.{arguments_held, arith_value-is, arith_value-same}
-use Rattle.net_eval.proofs.ScaledSteps.{scaled_arguments_held, scaled_value-is}
+use Rattle.net_eval.proofs.FaithfulSteps.{AreHeld, values_in, value_at-values_in}
+use Rattle.net_eval.proofs.ItemSteps.{faithful, kept_right}
+
+-- ---- each one by its number
+
+length-steps_of : (net : NetData) (n : ℕ) → length (steps_of net n) ≡ n
+unfolding steps_of
+length-steps_of net n = length-map-range_with_len (step_of net) 0 n
+
+step_at-steps_of : (net : NetData) (n k : ℕ) → k < n → step_at (steps_of net n) k ≡ step_of net k
+unfolding steps_of
+step_at-steps_of net n k lt = list_at (step_of net) n k (Read 0) lt
+
+length-starts_of : (net : NetData) (n : ℕ) → length (starts_of net n) ≡ n
+unfolding starts_of
+length-starts_of net n = length-map-range_with_len (start_of net) 0 n
+
+state_at-starts_of : (net : NetData) (n k : ℕ) → k < n → state_at (starts_of net n) k ≡ start_of net k
+unfolding starts_of
+state_at-starts_of net n k lt = list_at (start_of net) n k Nothing lt
+
+length-states_of : (steps : List Step) (states : List State) (inputs : List ℤ) (n : ℕ) → length (states_of steps states inputs n) ≡ n
+unfolding states_of
+length-states_of steps states inputs n = length-map-range_with_len (kept_behind steps states inputs) 0 n
+
+state_at-states_of : (steps : List Step) (states : List State) (inputs : List ℤ) (n k : ℕ) → k < n → state_at (states_of steps states inputs n) k ≡ kept_behind steps states inputs k
+unfolding states_of
+state_at-states_of steps states inputs n k lt = list_at (kept_behind steps states inputs) n k Nothing lt
+
+state_at-kept_of : (net : NetData) (rows : List (List ℤ)) (cells : List (List (Cell ℤ))) (n k : ℕ) → k < n → state_at (kept_of net rows cells n) k ≡ kept_on net rows cells k
+unfolding kept_of
+state_at-kept_of net rows cells n k lt = list_at (kept_on net rows cells) n k Nothing lt
+
+length-values_of : (steps : List Step) (states : List State) (inputs : List ℤ) (n : ℕ) → length (values_of steps states inputs n) ≡ n
+unfolding values_of
+length-values_of steps states inputs zero = refl
+length-values_of steps states inputs (suc n) = length_push _ _ ∙ omega (arith, length-values_of steps states inputs n)
 
 -- what holds of each element and of one more
 push_each : {X : Type 0} (xs : List X) (x d : X) (P : ℕ → X → Type 0) (n : ℕ) → length xs ≡ n → ((k : ℕ) → k < n → P k (get_or xs k d)) → P n x → (k : ℕ) → k < suc n → P k (get_or (xs ++ x ∷ []) k d)
@@ -45,219 +67,203 @@ push_each xs x d P n len h here k lt =
       | inr ne ↦ subst (λ v. P k v) (sym (get_or_append_left xs (x ∷ []) d k (omega (arith, len)))) (h k (omega arith))
     ]
 
--- ---- steps
+-- ---- before the first row
 
-pub length-steps_of : (net : NetData) (n : ℕ) → length (steps_of net n) ≡ n
-unfolding steps_of
-length-steps_of net zero = refl
-length-steps_of net (suc n) = length_push _ _ ∙ omega (arith, length-steps_of net n)
+starts_kept : (net : NetData) → IsValid net → AreKept net (starts_of net (length net.wires))
+starts_kept net valid = record {
+  one_each = length-starts_of net (length net.wires);
+  each = λ i lt.
+      subst (MayKeep net i (wire_at net.wires i).item) (sym (state_at-starts_of net (length net.wires) i lt)) (kept_right net i valid lt).may_start;
+}
 
-pub step_at-steps_of : (net : NetData) (n k : ℕ) → k < n → step_at (steps_of net n) k ≡ item_step net k (wire_at net.wires k).item
-unfolding steps_of
-step_at-steps_of net zero k lt = absurd (omega arith)
-step_at-steps_of net (suc n) k lt =
-    push_each (steps_of net n) _ (Read 0) (λ m s. s ≡ item_step net m (wire_at net.wires m).item) n (length-steps_of net n) (step_at-steps_of net n) refl k lt
+pub planned_start : (net : NetData) (steps : List Step) (states : List State) → IsValid net → steps ≡ steps_of net (length net.wires) → states ≡ starts_of net (length net.wires) → ArePlanned net steps states
+planned_start net steps states valid resolved e =
+    record { valid = valid; resolved = resolved; kept = subst (AreKept net) (sym e) (starts_kept net valid) }
 
-pub length-values_of : (steps : List Step) (inputs : List ℤ) (n : ℕ) → length (values_of steps inputs n) ≡ n
+pub after_start : (net : NetData) (states : List State) → IsValid net → states ≡ starts_of net (length net.wires) → IsAfter net [] states
+unfolding starts_of kept_of table
+after_start net states valid e =
+    e ∙ list_same (start_of net) (kept_on net [] []) (length net.wires) (λ i lt. (kept_right net i valid lt).start)
+
+-- a plan's states that were put back
+pub put_back : (net : NetData) (old new : List State) (n : ℕ) → new ≡ starts_of net (length net.wires) → n ≡ length net.wires → take n (new ++ drop (length new) old) ≡ starts_of net (length net.wires)
+put_back net old new n e long =
+    written_back new old n (ap length e ∙ length-starts_of net (length net.wires) ∙ sym long) ∙ e
+
+-- ---- a row of a planned network
+
+-- what a row is evaluated with
+record IsGiven (net : NetData) (states : List State) (inputs : List ℤ) : Type 0 where
+  pub valid : IsValid net
+  pub kept : AreKept net states
+  pub typed : AreTyped net inputs
+
+-- its steps
+abbrev all_steps : NetData → List Step
+all_steps net = steps_of net (length net.wires)
+
+-- the values of the first n of them
+abbrev values_to : NetData → List State → List ℤ → ℕ → List ℤ
+values_to net states inputs n = values_of (all_steps net) states inputs n
+
+-- what all wires keep behind the row
+abbrev states_behind : NetData → List State → List ℤ → List State
+states_behind net states inputs = states_of (all_steps net) states inputs (length net.wires)
+
+step_of_all : (net : NetData) (i : ℕ) → i < length net.wires → step_at (all_steps net) i ≡ step_of net i
+step_of_all net i lt = step_at-steps_of net (length net.wires) i lt
+
+-- one of them
+state_of_all : (net : NetData) (states : List State) (inputs : List ℤ) (i : ℕ) → i < length net.wires → state_at (states_behind net states inputs) i ≡ state_behind (step_of net i) (state_at states i) (values_to net states inputs i)
+state_of_all net states inputs i lt =
+    state_at-states_of (all_steps net) states inputs (length net.wires) i lt
+    ∙ ap (λ s. state_behind s (state_at states i) (values_to net states inputs i)) (step_of_all net i lt)
+
+-- the values lie in their kinds
+values_held : (net : NetData) (states : List State) (inputs : List ℤ) (n : ℕ) → IsGiven net states inputs → n ≤ length net.wires → AreHeld net (values_to net states inputs n) n
 unfolding values_of
-length-values_of steps inputs zero = refl
-length-values_of steps inputs (suc n) = length_push _ _ ∙ omega (arith, length-values_of steps inputs n)
-
--- ---- the places of inputs
-
-longer : (item : Item) (rest : List WireNo) (j n : ℕ) → n < length rest → cond (is_input item) (1 + n) n < length (with_input item j rest)
-longer (Input lo hi) rest j n h = omega arith
-longer (Const value) rest j n h = h
-longer (OfBlock b) rest j n h = h
-
-not_empty : (item : Item) (rest : List WireNo) (j : ℕ) → is_input item ≡ true → 0 < length (with_input item j rest)
-not_empty (Input lo hi) rest j h = omega arith
-not_empty (Const value) rest j h = absurd (cc)
-not_empty (OfBlock b) rest j h = absurd (cc)
-
--- how many of the wires are inputs, from the first on
-abbrev input_count : List Wire → ℕ
-input_count [] = 0
-input_count (w ∷ wires) = cond (is_input w.item) (1 + input_count wires) (input_count wires)
-
-input_count-is : (wires : List Wire) (i : ℕ) → input_count (take i wires) ≡ input_place wires i
-input_count-is wires i = is_count_by input_count (λ w. is_input w.item) refl (λ w ws. refl) (take i wires)
-
-place_below_from : (wires : List Wire) (j i : ℕ) → i < length wires → is_input (wire_at wires i).item ≡ true → input_count (take i wires) < length (inputs_from j wires)
-place_below_from [] j i lt h = absurd (omega arith)
-place_below_from (w ∷ wires) j zero lt h = not_empty w.item (inputs_from (j + 1) wires) j h
-place_below_from (w ∷ wires) j (suc i) lt h =
-    longer w.item (inputs_from (j + 1) wires) j (input_count (take i wires)) (place_below_from wires (j + 1) i (omega arith) h)
-
-pub place_below : (wires : List Wire) (i : ℕ) → i < length wires → is_input (wire_at wires i).item ≡ true → input_place wires i < length (inputs_of wires)
-place_below wires i lt h = omega (arith, input_count-is wires i, place_below_from wires 0 i lt h)
-
--- ---- values lie in their kinds
-
-held_in_kind : (ty : Ty) (kind : Kind) (point : ℕ) (v : ℤ) → kind ≡ Num ty point → Holds ty v → IsInKind kind v
-held_in_kind ty kind point v e h = subst (λ k. IsInKind k v) (sym e) (record { low = h.0; high = h.1 })
-
-kind_held : (ty : Ty) (kind : Kind) (point : ℕ) (v : ℤ) → kind ≡ Num ty point → IsInKind kind v → Holds ty v
-kind_held ty kind point v e h =
-    let k : IsInKind (Num ty point) v = subst (λ k. IsInKind k v) e h in
-    (k.low, k.high)
-
-value_held : (net : NetData) (inputs values : List ℤ) (i : ℕ) (item : Item) → IsValid net → AreTyped net inputs → i < length net.wires → (wire_at net.wires i).item ≡ item → IsInKind (wire_at net.wires i).kind (step_value (item_step net i item) inputs values)
-unfolding arith_value scaled_value value_in
-value_held net inputs values i (Input lo hi) valid typed lt e = in_kind _ _ (typed i lt (ap is_input e))
-value_held net inputs values i (Const value) valid typed lt e = const-valid net i value valid lt e
-value_held net inputs values i (OfBlock (Arith op v x y z sh)) valid typed lt e =
-    let k = number_kind v.o (wire_at net.wires i).kind (arith-valid net i op v x y z sh valid lt e).output in
-    held_in_kind v.o _ k.0 _ k.1 (saturated_held v.o _)
-value_held net inputs values i (OfBlock (Scaled op v x y)) valid typed lt e =
-    let k = number_kind v.o (wire_at net.wires i).kind (scaled-valid net i op v x y valid lt e).output in
-    held_in_kind v.o _ k.0 _ k.1 (saturated_held v.o _)
-
--- each of the first values lies in its kind
-abbrev AreHeld : NetData → List ℤ → ℕ → Type 0
-AreHeld net values n = (k : ℕ) → k < n → IsInKind (wire_at net.wires k).kind (value_at values k)
-
-values_held : (net : NetData) (inputs : List ℤ) (n : ℕ) → IsValid net → AreTyped net inputs → n ≤ length net.wires → AreHeld net (values_of (steps_of net (length net.wires)) inputs n) n
-unfolding values_of
-values_held net inputs zero valid typed le k lt = absurd (omega arith)
-values_held net inputs (suc n) valid typed le k lt =
-    push_each (values_of steps inputs n) _ (pos 0) (λ m v. IsInKind (wire_at net.wires m).kind v) n (length-values_of steps inputs n) (values_held net inputs n valid typed (omega arith)) here k lt
+values_held net states inputs zero given le k lt = absurd (omega arith)
+values_held net states inputs (suc n) given le k lt =
+    push_each values _ (pos 0) IsHeld n (length-values_of (all_steps net) states inputs n) (values_held net states inputs n given (omega arith)) here k lt
   where
-    steps : List Step
-    steps = steps_of net (length net.wires)
+    values : List ℤ
+    values = values_to net states inputs n
 
-    here : IsInKind (wire_at net.wires n).kind (step_value (step_at steps n) inputs (values_of steps inputs n))
-    here = subst (λ s. IsInKind (wire_at net.wires n).kind (step_value s inputs (values_of steps inputs n))) (sym (step_at-steps_of net (length net.wires) n (omega arith))) (value_held net inputs _ n (wire_at net.wires n).item valid typed (omega arith) refl)
+    IsHeld : ℕ → ℤ → Type 0
+    IsHeld m v = IsInKind (wire_at net.wires m).kind v
 
--- ---- each step is ready
+    there : n < length net.wires
+    there = omega arith
 
--- so is an argument of its type
-given_held : (net : NetData) (values : List ℤ) (i : ℕ) (first : WireNo) (ty : Option Ty) (a : WireNo) → AreHeld net values i → IsGoodArgument net i first ty a → IfSome ty (λ t. Holds t (value_at values a.0))
-given_held net values i first (Some ty) a held g =
-    let k = number_kind ty (wire_at net.wires a.0).kind g.number in kind_held ty _ k.0 _ k.1 (held a.0 g.earlier)
-given_held net values i first None a held g = tt
+    here : IsHeld n (step_value (step_at (all_steps net) n) (state_at states n) inputs values)
+    here =
+        let held = (faithful net n given.valid there).held (state_at states n) inputs values given.typed (given.kept.each n there) in
+        subst (λ s. IsHeld n (step_value s (state_at states n) inputs values)) (sym (step_of_all net n there)) held
 
-item_ready : (net : NetData) (inputs values : List ℤ) (i : ℕ) (item : Item) → IsValid net → length inputs ≡ length (inputs_of net.wires) → i < length net.wires → length values ≡ i → AreHeld net values i → (wire_at net.wires i).item ≡ item → IsReady (item_step net i item) inputs values
-item_ready net inputs values i (Input lo hi) valid one_each lt len held e =
-    omega (arith, one_each, place_below net.wires i lt (ap is_input e))
-item_ready net inputs values i (Const value) valid one_each lt len held e = tt
-item_ready net inputs values i (OfBlock (Arith op v x y z sh)) valid one_each lt len held e =
-    let g = arith-valid net i op v x y z sh valid lt e in
-    let types = argument_types op v in
-    (omega (arith, len, g.earlier_x), omega (arith, len, g.earlier_y), omega (arith, len, g.earlier_z), g.taken, arguments_held op v _ _ _ (given_held net values i x (slice_get types 0) x held g.first) (given_held net values i x (slice_get types 1) y held g.second) (given_held net values i x (slice_get types 2) z held g.third), shift_from_test op sh g.shift)
-item_ready net inputs values i (OfBlock (Scaled op v x y)) valid one_each lt len held e =
-    let g = scaled-valid net i op v x y valid lt e in
-    let types = scaled_types op v in
-    (omega (arith, len, g.earlier_x), omega (arith, len, g.earlier_y), scaled_arguments_held op v _ _ (given_held net values i x (slice_get types 0) x held g.first) (given_held net values i x (slice_get types 1) y held g.second), point_of-valid net x.0 valid (omega (arith, lt, g.earlier_x)), point_of-valid net y.0 valid (omega (arith, lt, g.earlier_y)), point_of-valid net i valid lt)
+-- each step is ready
+all_ready : (net : NetData) (states : List State) (inputs : List ℤ) → IsGiven net states inputs → length inputs ≡ length (inputs_of net.wires) → AreReady (all_steps net) states inputs
+all_ready net states inputs given one_each i below =
+    let lt : i < length net.wires = omega (arith, below, length-steps_of net (length net.wires)) in
+    let held = values_held net states inputs i given (omega (arith, lt)) in
+    let ready = (faithful net i given.valid lt).ready (state_at states i) inputs _ one_each (length-values_of _ states inputs i) held (given.kept.each i lt) in
+    subst (λ s. IsReady s (state_at states i) inputs (values_to net states inputs i)) (sym (step_of_all net i lt)) ready
 
-all_ready : (net : NetData) (inputs : List ℤ) → IsValid net → length inputs ≡ length (inputs_of net.wires) → AreTyped net inputs → AreReady (steps_of net (length net.wires)) inputs
-all_ready net inputs valid one_each typed i below =
-    subst (λ s. IsReady s inputs (values_of (steps_of net (length net.wires)) inputs i)) (sym (step_at-steps_of net (length net.wires) i lt)) (item_ready net inputs _ i (wire_at net.wires i).item valid one_each lt (length-values_of _ inputs i) (values_held net inputs i valid typed (omega (arith, lt))) refl)
-  where
-    lt : i < length net.wires
-    lt = omega (arith, below, length-steps_of net (length net.wires))
+-- what is kept behind the row may be kept
+all_kept : (net : NetData) (states : List State) (inputs : List ℤ) → IsGiven net states inputs → AreKept net (states_behind net states inputs)
+all_kept net states inputs given = record {
+  one_each = length-states_of _ states inputs (length net.wires);
+  each = λ i lt.
+      let held = values_held net states inputs i given (omega (arith, lt)) in
+      let may = (kept_right net i given.valid lt).may_next (state_at states i) _ (length-values_of _ states inputs i) held (given.kept.each i lt) in
+      subst (MayKeep net i (wire_at net.wires i).item) (sym (state_of_all net states inputs i lt)) may;
+}
 
 -- ---- the values are the row's
 
--- the values of a row's cells
-abbrev values : List (Cell ℤ) → List ℤ
-values cells = map (λ c. c.value) cells
+-- what is kept before a row
+record IsKeptBefore (net : NetData) (states : List State) (rows : List (List ℤ)) (past : List (List (Cell ℤ))) : Type 0 where
+  pub valid : IsValid net
+  pub kept : states ≡ kept_of net rows past (length net.wires)
 
-value_at-values : (cells : List (Cell ℤ)) (k : ℕ) → value_at (values cells) k ≡ (get_or cells k (plain machine (pos 0))).value
-unfolding machine
-value_at-values cells k = get_or-map (λ (c : Cell ℤ). c.value) cells k (plain machine (pos 0))
-
-step_cell : (net : NetData) (inputs : List ℤ) (rows : List (List ℤ)) (past : List (List (Cell ℤ))) (cells : List (Cell ℤ)) (i : ℕ) (item : Item) → IsValid net → i < length net.wires → (wire_at net.wires i).item ≡ item → step_value (item_step net i item) inputs (values cells) ≡ (equation_of machine net (inputs ∷ rows) (cell_at machine (cells ∷ past)) i item).value
-unfolding equation_of machine machine_cell formula state_formula quotient_of
-step_cell net inputs rows past cells i (Input lo hi) valid lt e = refl
-step_cell net inputs rows past cells i (Const value) valid lt e = refl
-step_cell net inputs rows past cells i (OfBlock (Arith op v x y z sh)) valid lt e =
-    let k = number_kind v.o (wire_at net.wires i).kind (arith-valid net i op v x y z sh valid lt e).output in
-    arith_value-same op v.o _ _ _ _ _ _ sh (value_at-values cells x.0) (value_at-values cells y.0) (value_at-values cells z.0)
-    ∙ arith_value-is op v.o (wire_at net.wires i).kind k.0 (λ p. (cell_at machine (cells ∷ past) 0 (argument_of (Arith op v x y z sh) p)).value) sh k.1
-step_cell net inputs rows past cells i (OfBlock (Scaled op v x y)) valid lt e =
-    let k = number_kind v.o (wire_at net.wires i).kind (scaled-valid net i op v x y valid lt e).output in
-    let points = points_of net (wire_at net.wires i).kind (Scaled op v x y) in
-    ap₂ (λ a b. scaled_value op v.o a b points) (value_at-values cells x.0) (value_at-values cells y.0)
-    ∙ scaled_value-is op v.o (wire_at net.wires i).kind k.0 (λ p. (cell_at machine (cells ∷ past) 0 (argument_of (Scaled op v x y) p)).value) points k.1
+state_is : (net : NetData) (states : List State) (rows : List (List ℤ)) (past : List (List (Cell ℤ))) (i : ℕ) → IsKeptBefore net states rows past → i < length net.wires → state_at states i ≡ kept_on net rows past i
+state_is net states rows past i before lt =
+    ap (λ l. state_at l i) before.kept ∙ state_at-kept_of net rows past (length net.wires) i lt
 
 -- one more value is that of one more cell
-values_next : (net : NetData) (inputs : List ℤ) (rows : List (List ℤ)) (past : List (List (Cell ℤ))) (n : ℕ) → IsValid net → n < length net.wires → values_of (steps_of net (length net.wires)) inputs n ≡ values (row_of machine net (inputs ∷ rows) past n) → step_value (step_at (steps_of net (length net.wires)) n) inputs (values_of (steps_of net (length net.wires)) inputs n) ≡ (equation machine net (inputs ∷ rows) (cell_at machine (row_of machine net (inputs ∷ rows) past n ∷ past)) n).value
-values_next net inputs rows past n valid lt before =
-    ap (λ s. step_value s inputs (values_of (steps_of net (length net.wires)) inputs n)) (step_at-steps_of net (length net.wires) n lt)
-    ∙ ap (step_value (item_step net n (wire_at net.wires n).item) inputs) before
-    ∙ step_cell net inputs rows past (row_of machine net (inputs ∷ rows) past n) n (wire_at net.wires n).item valid lt refl
+value_next : (net : NetData) (states : List State) (inputs : List ℤ) (rows : List (List ℤ)) (past : List (List (Cell ℤ))) (n : ℕ) → IsKeptBefore net states rows past → n < length net.wires → values_to net states inputs n ≡ values_in (row_of machine net (inputs ∷ rows) past n) → step_value (step_at (all_steps net) n) (state_at states n) inputs (values_to net states inputs n) ≡ (equation machine net (inputs ∷ rows) (cell_at machine (row_of machine net (inputs ∷ rows) past n ∷ past)) n).value
+value_next net states inputs rows past n before lt earlier =
+    let kept = state_is net states rows past n before lt in
+    ap₂ (λ s l. step_value s (state_at states n) inputs l) (step_of_all net n lt) earlier
+    ∙ (faithful net n before.valid lt).right (state_at states n) inputs rows past (row_of machine net (inputs ∷ rows) past n) kept
 
-values_row : (net : NetData) (inputs : List ℤ) (rows : List (List ℤ)) (past : List (List (Cell ℤ))) (n : ℕ) → IsValid net → n ≤ length net.wires → values_of (steps_of net (length net.wires)) inputs n ≡ values (row_of machine net (inputs ∷ rows) past n)
+values_row : (net : NetData) (states : List State) (inputs : List ℤ) (rows : List (List ℤ)) (past : List (List (Cell ℤ))) (n : ℕ) → IsKeptBefore net states rows past → n ≤ length net.wires → values_to net states inputs n ≡ values_in (row_of machine net (inputs ∷ rows) past n)
 unfolding values_of row_of
-values_row net inputs rows past zero valid le = refl
-values_row net inputs rows past (suc n) valid le =
-    let before = values_row net inputs rows past n valid (omega arith) in
-    ap₂ (λ l x. l ++ x ∷ []) before (values_next net inputs rows past n valid (omega arith) before)
+values_row net states inputs rows past zero before le = refl
+values_row net states inputs rows past (suc n) before le =
+    let earlier = values_row net states inputs rows past n before (omega arith) in
+    ap₂ (λ l x. l ++ x ∷ []) earlier (value_next net states inputs rows past n before (omega arith) earlier)
     ∙ sym (map-append (λ (c : Cell ℤ). c.value) (row_of machine net (inputs ∷ rows) past n) _)
 
--- ---- what a plan keeps and answers
-
-nothing_kept : (rows : List (List ℤ)) (cells : List (List (Cell ℤ))) (i : ℕ) (wires : List Wire) → [] ≡ kept_from rows cells i wires
-nothing_kept rows cells i [] = refl
-nothing_kept rows cells i (w ∷ wires) = nothing_kept rows cells (i + 1) wires ∙ ap (λ k. k ++ kept_from rows cells (i + 1) wires) (of_item w.item)
+-- the states behind it are what is kept
+states_row : (net : NetData) (states : List State) (inputs : List ℤ) (rows : List (List ℤ)) → IsKeptBefore net states rows (table machine net rows) → IsAfter net (inputs ∷ rows) (states_behind net states inputs)
+unfolding states_of kept_of table
+states_row net states inputs rows before = list_same (kept_behind (all_steps net) states inputs) _ (length net.wires) each
   where
-    of_item : (item : Item) → [] ≡ kept_by item rows cells i
-    of_item (Input lo hi) = refl
-    of_item (Const value) = refl
-    of_item (OfBlock b) = refl
+    past : List (List (Cell ℤ))
+    past = table machine net rows
 
-pub after_all : (net : NetData) (rows : List (List ℤ)) → IsAfter net rows []
-after_all net rows = nothing_kept rows (table machine net rows) 0 net.wires
+    row : List (Cell ℤ)
+    row = row_of machine net (inputs ∷ rows) past (length net.wires)
 
-pub after_along : (p : PlanData) (net : NetData) (rows : List (List ℤ)) → record { net = net; kept = [] } ≡ p → IsAfter p.net rows p.kept
-after_along p net rows e = subst (λ (q : PlanData). IsAfter q.net rows q.kept) e (after_all net rows)
+    each : (i : ℕ) → i < length net.wires → kept_behind (all_steps net) states inputs i ≡ kept_on net (inputs ∷ rows) (row ∷ past) i
+    each i lt =
+        let earlier = values_row net states inputs rows past i before (omega (arith, lt)) in
+        let kept = state_is net states rows past i before lt in
+        ap₂ (λ s l. state_behind s (state_at states i) l) (step_of_all net i lt) earlier
+        ∙ (kept_right net i before.valid lt).next (state_at states i) inputs rows past kept
 
 -- the outputs that are read off the values
-outputs : (net : NetData) (inputs : List ℤ) (rows : List (List ℤ)) → IsValid net → map (λ o. value_at (values_of (steps_of net (length net.wires)) inputs (length net.wires)) o.0) net.outs ≡ outputs_of net (inputs ∷ rows)
+outputs_row : (net : NetData) (states : List State) (inputs : List ℤ) (rows : List (List ℤ)) → IsKeptBefore net states rows (table machine net rows) → map (λ o. value_at (values_to net states inputs (length net.wires)) o.0) net.outs ≡ outputs_of net (inputs ∷ rows)
 unfolding outputs_of table
-outputs net inputs rows valid = ap (λ f. map f net.outs) same
+outputs_row net states inputs rows before = ap (λ f. map f net.outs) same
   where
-    cells : List (Cell ℤ)
-    cells = row_of machine net (inputs ∷ rows) (table machine net rows) (length net.wires)
+    past : List (List (Cell ℤ))
+    past = table machine net rows
 
-    each : (o : WireNo) → value_at (values_of (steps_of net (length net.wires)) inputs (length net.wires)) o.0 ≡ (get_or cells o.0 (plain machine (pos 0))).value
-    each o = ap (λ l. value_at l o.0) (values_row net inputs rows (table machine net rows) (length net.wires) valid (omega arith)) ∙ value_at-values cells o.0
+    cells : List (Cell ℤ)
+    cells = row_of machine net (inputs ∷ rows) past (length net.wires)
 
     read : WireNo → ℤ
-    read o = value_at (values_of (steps_of net (length net.wires)) inputs (length net.wires)) o.0
+    read o = value_at (values_to net states inputs (length net.wires)) o.0
 
     shown : WireNo → ℤ
     shown o = (get_or cells o.0 (plain machine (pos 0))).value
 
+    each : (o : WireNo) → read o ≡ shown o
+    each o =
+        ap (λ l. value_at l o.0) (values_row net states inputs rows past (length net.wires) before (omega arith))
+        ∙ value_at-values_in cells o.0
+
     same : read ≡ shown
     same = λ i o. each o i
 
--- what the fields of a plan say of its steps
-pub record IsResolved (net : NetData) (steps : List Step) : Type 0 where
-  pub valid : IsValid net
-  pub resolved : steps ≡ steps_of net (length net.wires)
+-- ---- the same, of the steps and states that a plan has
 
-pub resolved_from : (net : NetData) (steps items : List Step) → IsValid net → steps ≡ items → items ≡ steps_of net (length net.wires) → IsResolved net steps
-resolved_from net steps items valid e h = record { valid = valid; resolved = e ∙ h }
+pub length-steps : (net : NetData) (steps : List Step) (states : List State) → ArePlanned net steps states → length steps ≡ length net.wires
+length-steps net steps states p = ap length p.resolved ∙ length-steps_of net (length net.wires)
 
-pub step_outputs : (p : PlanData) (net : NetData) (steps : List Step) (inputs out : List ℤ) (outs : List WireNo) (rows : List (List ℤ)) → record { net = net; kept = [] } ≡ p → IsResolved net steps → outs ≡ net.outs → out ≡ map (λ o. value_at (values_of steps inputs (length steps)) o.0) outs → out ≡ outputs_of p.net (inputs ∷ rows)
-step_outputs p net steps inputs out outs rows e r named read =
-    subst (λ (q : PlanData). out ≡ outputs_of q.net (inputs ∷ rows)) e (read ∙ ap₂ (λ l os. map (λ o. value_at l o.0) os) full named ∙ outputs net inputs rows r.valid)
+pub steps_ready : (net : NetData) (steps : List Step) (states : List State) (inputs : List ℤ) → ArePlanned net steps states → length inputs ≡ length (inputs_of net.wires) → AreTyped net inputs → AreReady steps states inputs
+steps_ready net steps states inputs p one_each typed =
+    let given : IsGiven net states inputs = record { valid = p.valid; kept = p.kept; typed = typed } in
+    subst (λ l. AreReady l states inputs) (sym p.resolved) (all_ready net states inputs given one_each)
+
+pub outs_there : (net : NetData) (steps : List Step) (states : List State) (inputs values : List ℤ) (outs : List WireNo) → ArePlanned net steps states → outs ≡ net.outs → values ≡ values_of steps states inputs (length steps) → AreBelow outs (length values)
+outs_there net steps states inputs values outs p named filled =
+    subst (λ os. AreBelow os (length values)) (sym named) (subst (AreBelow net.outs) (sym long) (outs_below net p.valid))
   where
-    n : ℕ
-    n = length net.wires
+    long : length values ≡ length net.wires
+    long = ap length filled ∙ length-values_of steps states inputs (length steps) ∙ length-steps net steps states p
 
-    full : values_of steps inputs (length steps) ≡ values_of (steps_of net n) inputs n
-    full = ap (λ s. values_of s inputs (length s)) r.resolved ∙ ap (values_of (steps_of net n) inputs) (length-steps_of net n)
+-- the states of all steps are those of all wires
+full_states : (net : NetData) (steps : List Step) (states : List State) (inputs : List ℤ) → ArePlanned net steps states → states_of steps states inputs (length steps) ≡ states_behind net states inputs
+full_states net steps states inputs p = ap₂ (λ l n. states_of l states inputs n) p.resolved (length-steps net steps states p)
 
-pub length-steps : (net : NetData) (steps : List Step) → IsResolved net steps → length steps ≡ length net.wires
-length-steps net steps r = ap length r.resolved ∙ length-steps_of net (length net.wires)
+pub row_kept : (net : NetData) (steps : List Step) (states behind : List State) (inputs : List ℤ) → ArePlanned net steps states → AreTyped net inputs → behind ≡ states_of steps states inputs (length steps) → AreKept net behind
+row_kept net steps states behind inputs p typed e =
+    let given : IsGiven net states inputs = record { valid = p.valid; kept = p.kept; typed = typed } in
+    subst (AreKept net) (sym (e ∙ full_states net steps states inputs p)) (all_kept net states inputs given)
 
-pub outs_there : (net : NetData) (steps : List Step) (outs : List WireNo) → IsResolved net steps → outs ≡ net.outs → AreBelow outs (length steps)
-outs_there net steps outs r named =
-    subst (λ os. AreBelow os (length steps)) (sym named) (subst (AreBelow net.outs) (sym (length-steps net steps r)) (outs_below net r.valid))
+pub row_after : (net : NetData) (steps : List Step) (states behind : List State) (inputs : List ℤ) (rows : List (List ℤ)) → ArePlanned net steps states → IsAfter net rows states → behind ≡ states_of steps states inputs (length steps) → IsAfter net (inputs ∷ rows) behind
+row_after net steps states behind inputs rows p after e =
+    e ∙ full_states net steps states inputs p ∙ states_row net states inputs rows (record { valid = p.valid; kept = after })
 
-pub steps_ready : (p : PlanData) (net : NetData) (steps : List Step) (inputs : List ℤ) → record { net = net; kept = [] } ≡ p → IsResolved net steps → length inputs ≡ length (inputs_of p.net.wires) → AreTyped p.net inputs → AreReady steps inputs
-steps_ready p net steps inputs e r one_each typed =
-    subst (λ s. AreReady s inputs) (sym r.resolved) (all_ready net inputs r.valid (subst (λ (q : PlanData). length inputs ≡ length (inputs_of q.net.wires)) (sym e) one_each) (subst (λ (q : PlanData). AreTyped q.net inputs) (sym e) typed))
+pub row_outputs : (net : NetData) (steps : List Step) (states : List State) (inputs values out : List ℤ) (outs : List WireNo) (rows : List (List ℤ)) → ArePlanned net steps states → IsAfter net rows states → values ≡ values_of steps states inputs (length steps) → outs ≡ net.outs → out ≡ map (λ o. value_at values o.0) outs → out ≡ outputs_of net (inputs ∷ rows)
+row_outputs net steps states inputs values out outs rows p after filled named read =
+    read
+    ∙ ap₂ (λ l os. map (λ o. value_at l o.0) os) (filled ∙ ap₂ (λ l n. values_of l states inputs n) p.resolved (length-steps net steps states p)) named
+    ∙ outputs_row net states inputs rows (record { valid = p.valid; kept = after })
+
+-- ---- what is said of a plan's network is said of the plan
+
+pub after_along : (p : PlanData) (net : NetData) (states kept : List State) (rows : List (List ℤ)) → record { net = net; kept = states } ≡ p → IsAfter net rows kept → IsAfter p.net rows kept
+after_along p net states kept rows e after = subst (λ (q : PlanData). IsAfter q.net rows kept) e after

@@ -1,29 +1,22 @@
--- How the steps and the values grow, step by step, and what a block's arguments are.
+-- How the steps, their values and the states grow, wire by wire.
 use Rattle.std.proofs.Common.{◌≡◌, ℕ, zero, suc, ◌+◌, ◌^◌, ◌<◌, ◌≤◌, Bool, true, false, List, [], ◌∷◌, ◌++◌, length, set, take, ℤ, nat_lt, refl, sym, ap, ap₂, ◌∙◌, arith, add-one, ltb-true}
 use Rattle.std.specs.List.{list_all}
 use Rattle.std.proofs.lemmas.Bool.{and_parts}
-use Rattle.std.proofs.lemmas.List.{length-take-le, take_more_set, take_all}
+use Rattle.std.proofs.lemmas.List.{length-take-le, take_more_set, get_or-set_other}
 use Rattle.std.proofs.lemmas.List.Sums.{count_by_more_no, count_by_more_yes, count_by-le-length}
-use Rattle.fx_routines.specs.declared.operation.ScaledOp.{ScaledOp}
-use Rattle.fx_routines.specs.declared.operation.Variant.{Variant}
 use Rattle.net_model.specs.declared.wires.WireNo.{WireNo}
-use Rattle.net_model.specs.declared.wires.Block.{Block}
-use Rattle.net_model.specs.declared.wires.Block.TheVariants.{Scaled}
 use Rattle.net_model.specs.declared.wires.Item.{Item}
-use Rattle.net_model.specs.declared.wires.Item.TheVariants.{Block as OfBlock}
 use Rattle.net_model.specs.declared.wires.Wire.{Wire}
 use Rattle.net_model.specs.Wires.{NetData, wire_at, no_wire, is_input, input_place}
 use Rattle.net_model.specs.Validity.{IsValid}
-use Rattle.net_model.proofs.ValidityFacts.{scaled-valid, length-valid, outs-valid}
-use Rattle.net_eval.specs.declared.resolving.Step.{Step}
-use Rattle.net_eval.specs.Steps.{item_step, steps_of, step_at, step_value, values_of}
+use Rattle.net_model.proofs.ValidityFacts.{length-valid, outs-valid}
+use Rattle.net_eval.specs.declared.states.State.{State}
+use Rattle.net_eval.specs.declared.states.State.TheVariants.{Nothing}
+use Rattle.net_eval.specs.declared.steps.Step.{Step}
+use Rattle.net_eval.specs.States.{start_of, starts_of, state_at}
+use Rattle.net_eval.specs.Steps.{step_of, steps_of, step_at, step_value, state_behind, kept_behind, values_of, states_of}
 use Rattle.net_eval.specs.Picking.{AreBelow}
-
--- the arguments of a form with binary points are wires
-pub scaled_there : (net : NetData) (i : ℕ) (b : Block) (op : ScaledOp) (v : Variant) (x y : WireNo) → IsValid net → i < length net.wires → (wire_at net.wires i).item ≡ OfBlock b → b ≡ Scaled op v x y → (x.0 < length net.wires) × (y.0 < length net.wires)
-scaled_there net i b op v x y valid lt e h =
-    let g = scaled-valid net i op v x y valid lt (e ∙ ap OfBlock h) in
-    (omega (arith, g.earlier_x), omega (arith, g.earlier_y))
+use Rattle.net_eval.proofs.Listings.{list_push, list_set}
 
 -- a valid network's wires have small numbers
 pub few_wires : (net : NetData) → IsValid net → length net.wires ≤ 512
@@ -39,15 +32,6 @@ small_place net wires i place valid same lt is =
     let here : i ≤ length net.wires = omega (arith, ap length same) in
     let most : place ≤ length (take i net.wires) = rw is (count_by-le-length (λ (w : Wire). is_input w.item) (take i net.wires)) in
     omega (arith, length-take-le i net.wires here)
-
--- no step yet, and one more step
-pub steps_start : (net : NetData) → [] ≡ steps_of net 0
-unfolding steps_of
-steps_start net = refl
-
-pub steps_push : (net : NetData) (i : ℕ) (steps : List Step) (step : Step) → step ≡ item_step net i (wire_at net.wires i).item → steps ≡ steps_of net i → steps ++ step ∷ [] ≡ steps_of net (i + 1)
-unfolding steps_of
-steps_push net i steps step h e = ap₂ (λ s t. s ++ t ∷ []) e h ∙ sym (ap (steps_of net) (add-one i))
 
 -- one more wire's place
 pub place_next : (wires : List Wire) (i : ℕ) → i < length wires → is_input (wire_at wires i).item ≡ true → input_place wires (i + 1) ≡ input_place wires i + 1
@@ -65,20 +49,57 @@ pub place_kept : (wires seen : List Wire) (i place next : ℕ) (item : Item) (is
 place_kept wires seen i place next item is same lt e f here fails n =
     n ∙ here ∙ sym (place_same wires i (rw (← same) lt) (ap is_input (sym e) ∙ sym f ∙ fails))
 
--- no value yet, one more value, and all values
-pub values_start : (steps : List Step) (inputs : List ℤ) → [] ≡ values_of steps inputs 0
-unfolding values_of
-values_start steps inputs = refl
+-- ---- steps and states, one after the other
 
-pub values_push : (steps : List Step) (inputs values seen : List ℤ) (i : ℕ) (v r : ℤ) → i < length values → take i values ≡ values_of steps inputs i → v ≡ r → seen ≡ take i values → r ≡ step_value (step_at steps i) inputs seen → take (i + 1) (set values i v) ≡ values_of steps inputs (i + 1)
+pub steps_start : (net : NetData) → [] ≡ steps_of net 0
+unfolding steps_of
+steps_start net = refl
+
+pub steps_push : (net : NetData) (i : ℕ) (steps : List Step) (step : Step) → step ≡ step_of net i → steps ≡ steps_of net i → steps ++ step ∷ [] ≡ steps_of net (i + 1)
+unfolding steps_of
+steps_push net i steps step h e = list_push (step_of net) steps step i e h
+
+pub starts_start : (net : NetData) → [] ≡ starts_of net 0
+unfolding starts_of
+starts_start net = refl
+
+pub starts_push : (net : NetData) (i : ℕ) (states : List State) (state : State) → state ≡ start_of net i → states ≡ starts_of net i → states ++ state ∷ [] ≡ starts_of net (i + 1)
+unfolding starts_of
+starts_push net i states state h e = list_push (start_of net) states state i e h
+
+-- a state that is put back
+pub starts_set : (net : NetData) (i : ℕ) (states : List State) (state : State) → i < length states → state ≡ start_of net i → take i states ≡ starts_of net i → take (i + 1) (set states i state) ≡ starts_of net (i + 1)
+unfolding starts_of
+starts_set net i states state lt h e = list_set (start_of net) states state i lt e h
+
+-- ---- a row's values, and the states behind it
+
+pub values_start : (steps : List Step) (states : List State) (inputs : List ℤ) → [] ≡ values_of steps states inputs 0
 unfolding values_of
-values_push steps inputs values seen i v r lt e same same_seen h =
+values_start steps states inputs = refl
+
+pub values_push : (steps : List Step) (states : List State) (inputs values : List ℤ) (i : ℕ) (step : Step) (state : State) (v r : ℤ) → i < length values → take i values ≡ values_of steps states inputs i → v ≡ r → r ≡ step_value step state inputs (take i values) → step ≡ step_at steps i → state ≡ state_at states i → take (i + 1) (set values i v) ≡ values_of steps states inputs (i + 1)
+unfolding values_of
+values_push steps states inputs values i step state v r lt e same h taken old =
     take_more_set values i v lt
-    ∙ ap₂ (λ l x. l ++ x ∷ []) e (same ∙ h ∙ ap (step_value (step_at steps i) inputs) (same_seen ∙ e))
-    ∙ sym (ap (values_of steps inputs) (add-one i))
+    ∙ ap₂ (λ l x. l ++ x ∷ []) e (same ∙ h ∙ ap (λ s. step_value s state inputs (take i values)) taken ∙ ap₂ (λ s l. step_value (step_at steps i) s inputs l) old e)
+    ∙ sym (ap (values_of steps states inputs) (add-one i))
 
-pub values_done : (steps : List Step) (inputs values : List ℤ) (i : ℕ) → length values ≡ length steps → i ≡ length steps → take i values ≡ values_of steps inputs i → values ≡ values_of steps inputs (length steps)
-values_done steps inputs values i len at e = sym (take_all i values (omega (arith, len, at))) ∙ e ∙ ap (values_of steps inputs) at
+pub states_start : (steps : List Step) (states : List State) (inputs : List ℤ) → [] ≡ states_of steps states inputs 0
+unfolding states_of
+states_start steps states inputs = refl
+
+pub states_set : (steps : List Step) (states now : List State) (inputs values : List ℤ) (i : ℕ) (step : Step) (state new : State) → i < length now → take i values ≡ values_of steps states inputs i → take i now ≡ states_of steps states inputs i → new ≡ state_behind step state (take i values) → step ≡ step_at steps i → state ≡ state_at states i → take (i + 1) (set now i new) ≡ states_of steps states inputs (i + 1)
+unfolding states_of
+states_set steps states now inputs values i step state new lt v e h taken old =
+    list_set (kept_behind steps states inputs) now new i lt e (h ∙ ap (λ s. state_behind s state (take i values)) taken ∙ ap₂ (λ s l. state_behind (step_at steps i) s l) old v)
+
+-- what stands from one place on isn't touched by what is set before it
+pub rest_set : (states now : List State) (i : ℕ) (new : State) → ((k : ℕ) → i ≤ k → state_at now k ≡ state_at states k) → (k : ℕ) → i + 1 ≤ k → state_at (set now i new) k ≡ state_at states k
+rest_set states now i new rest k le =
+    get_or-set_other now i k new Nothing (λ (e : k ≡ i). absurd (omega (arith, le, e))) ∙ rest k (omega (arith, le))
+
+-- ---- outputs
 
 -- outputs that all pass a test are below
 pub below_all : (outs : List WireNo) (n : ℕ) → list_all (λ o. nat_lt o.0 n) outs ≡ true → AreBelow outs n

@@ -1,6 +1,7 @@
--- The steps of an evaluator, one for each wire, and the values that they give for one row. These are for what a plan keeps
--- and for private functions' clauses.
-use Rattle.std.specs.Prelude.{ℕ, zero, suc, ◌<◌, ◌≤◌, ℤ, pos, List, [], ◌∷◌, ◌++◌, length, get_or}
+-- The steps of an evaluator, one for each wire, and what they make of one row: values, and states behind it. These are for what a
+-- plan keeps and for private functions' clauses.
+use Rattle.std.specs.Prelude.{◌≡◌, ℕ, zero, suc, ◌<◌, ◌≤◌, ℤ, pos, List, [], ◌∷◌, ◌++◌, map, length, get_or}
+use Rattle.std.specs.List.{range_with_len}
 use Rattle.mfx_arith.specs.Calls.{arith_value}
 use Rattle.mfx_arith.specs.Operations.{Takes, HasArguments}
 use Rattle.mfx_scaled.specs.Calls.{scaled_value}
@@ -12,9 +13,14 @@ use Rattle.net_model.specs.declared.wires.Item.{Item}
 use Rattle.net_model.specs.declared.wires.Item.TheVariants.{Input, Const, Block as OfBlock}
 use Rattle.net_model.specs.Wires.{NetData, wire_at, input_place}
 use Rattle.net_model.specs.Built.{most_shift}
+use Rattle.net_model.specs.Validity.{IsValid}
 use Rattle.net_meaning.specs.Blocks.{points_of}
-use Rattle.net_eval.specs.declared.resolving.Step.{Step}
-use Rattle.net_eval.specs.declared.resolving.Step.TheVariants.{Read, Fixed, Arith as ArithStep, Scaled as ScaledStep}
+use Rattle.net_eval.specs.declared.states.State.{State}
+use Rattle.net_eval.specs.declared.steps.Step.{Step}
+use Rattle.net_eval.specs.declared.steps.Step.TheVariants.{Read, Fixed, Arith as ArithStep, Scaled as ScaledStep}
+use Rattle.net_eval.specs.States.{state_at, AreKept}
+
+-- ---- which steps a network has
 
 -- the step of a block on a wire of a kind
 abbrev pub block_step : NetData → Kind → Block → Step
@@ -27,45 +33,70 @@ item_step net i (Input lo hi) = Read (input_place net.wires i)
 item_step net i (Const value) = Fixed value
 item_step net i (OfBlock b) = block_step net (wire_at net.wires i).kind b
 
+-- the step of wire i
+abbrev pub step_of : NetData → ℕ → Step
+step_of net i = item_step net i (wire_at net.wires i).item
+
 -- the steps of the first n wires
 unfoldable pub steps_of : NetData → ℕ → List Step
-steps_of net zero = []
-steps_of net (suc n) = steps_of net n ++ item_step net n (wire_at net.wires n).item ∷ []
+steps_of net n = map (step_of net) (range_with_len 0 n)
 
 -- step number i, from 0
 abbrev pub step_at : List Step → ℕ → Step
 step_at steps i = get_or steps i (Read 0)
 
+-- these are the steps of a valid network, and states that its wires may keep
+pub record ArePlanned (net : NetData) (steps : List Step) (states : List State) : Type 0 where
+  pub valid : IsValid net
+  pub resolved : steps ≡ steps_of net (length net.wires)
+  pub kept : AreKept net states
+
+-- ---- what they make of a row
+
 -- value number i, from 0
 abbrev pub value_at : List ℤ → ℕ → ℤ
 value_at values i = get_or values i (pos 0)
 
--- what a step gives, from the row's inputs and the values of the earlier wires
-abbrev pub step_value : Step → List ℤ → List ℤ → ℤ
-step_value (Read place) inputs values = value_at inputs place
-step_value (Fixed value) inputs values = value
-step_value (ArithStep op v x y z shift) inputs values =
+-- what a step gives, from what its wire keeps, the row's inputs and the values of the earlier wires
+abbrev pub step_value : Step → State → List ℤ → List ℤ → ℤ
+step_value (Read place) state inputs values = value_at inputs place
+step_value (Fixed value) state inputs values = value
+step_value (ArithStep op v x y z shift) state inputs values =
     arith_value op v.o (value_at values x) (value_at values y) (value_at values z) shift
-step_value (ScaledStep op v x y points) inputs values =
+step_value (ScaledStep op v x y points) state inputs values =
     scaled_value op v.o (value_at values x) (value_at values y) points
 
--- the values of the first n steps
-unfoldable pub values_of : List Step → List ℤ → ℕ → List ℤ
-values_of steps inputs zero = []
-values_of steps inputs (suc n) = values_of steps inputs n ++ step_value (step_at steps n) inputs (values_of steps inputs n) ∷ []
+-- what its wire keeps behind the row, from what it kept and the values of the earlier wires
+abbrev pub state_behind : Step → State → List ℤ → State
+state_behind other state values = state
+
+-- the values of the first n steps, from what their wires keep
+unfoldable pub values_of : List Step → List State → List ℤ → ℕ → List ℤ
+values_of steps states inputs zero = []
+values_of steps states inputs (suc n) =
+    let values = values_of steps states inputs n in
+    values ++ step_value (step_at steps n) (state_at states n) inputs values ∷ []
+
+-- what wire i keeps behind the row
+abbrev pub kept_behind : List Step → List State → List ℤ → ℕ → State
+kept_behind steps states inputs i = state_behind (step_at steps i) (state_at states i) (values_of steps states inputs i)
+
+-- what the first n wires keep behind the row
+unfoldable pub states_of : List Step → List State → List ℤ → ℕ → List State
+states_of steps states inputs n = map (kept_behind steps states inputs) (range_with_len 0 n)
 
 -- a step can be taken: its arguments are there, in the types of its routine, which takes its types, its shift and its points
-abbrev pub IsReady : Step → List ℤ → List ℤ → Type 0
-IsReady (Read place) inputs values = place < length inputs
-IsReady (Fixed value) inputs values = Unit {0}
-IsReady (ArithStep op v x y z shift) inputs values =
+abbrev pub IsReady : Step → State → List ℤ → List ℤ → Type 0
+IsReady (Read place) state inputs values = place < length inputs
+IsReady (Fixed value) state inputs values = Unit {0}
+IsReady (ArithStep op v x y z shift) state inputs values =
     (x < length values)
     × (y < length values)
     × (z < length values)
     × Takes op v
     × HasArguments op v (value_at values x) (value_at values y) (value_at values z)
     × (shift ≤ most_shift)
-IsReady (ScaledStep op v x y points) inputs values =
+IsReady (ScaledStep op v x y points) state inputs values =
     (x < length values)
     × (y < length values)
     × HasScaledArguments op v (value_at values x) (value_at values y)
@@ -74,5 +105,6 @@ IsReady (ScaledStep op v x y points) inputs values =
     × (points.c ≤ 15)
 
 -- each step is ready when its turn comes
-abbrev pub AreReady : List Step → List ℤ → Type 0
-AreReady steps inputs = (i : ℕ) → i < length steps → IsReady (step_at steps i) inputs (values_of steps inputs i)
+abbrev pub AreReady : List Step → List State → List ℤ → Type 0
+AreReady steps states inputs =
+    (i : ℕ) → i < length steps → IsReady (step_at steps i) (state_at states i) inputs (values_of steps states inputs i)

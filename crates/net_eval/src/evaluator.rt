@@ -4,7 +4,9 @@ ghost use Rattle.net_eval.specs.After.{IsAfter, outputs_of};
 ghost use Rattle.net_eval.specs.Typing.{AreTyped};
 
 use crate::filling::evaluate;
-use crate::resolving::{Step, resolve};
+use crate::resolving::resolve;
+use crate::states::{State, restart, start};
+use crate::steps::Step;
 use net_model::Network;
 use std::alloc::{AllocError, Global};
 use std::marker::Model;
@@ -15,22 +17,21 @@ use std::marker::Model;
 pub struct Plan<'a> {
     net: &'a Network,
     steps: Vec<Step>,
+    states: Vec<State>,
     values: Vec<i64>,
 }
 
 impl<'a> Model for Plan<'a> {
-    ghost use Rattle.std.specs.Prelude.{◌≡◌, [], length};
-    ghost use Rattle.net_model.specs.Validity.{IsValid};
+    ghost use Rattle.std.specs.Prelude.{◌≡◌, length};
     ghost use Rattle.net_eval.specs.After.{PlanData};
 
     ghost Value = { PlanData };
 
-    ghost use Rattle.net_eval.specs.Steps.{steps_of};
+    ghost use Rattle.net_eval.specs.Steps.{ArePlanned};
 
-    ghost view = { λ p. record { net = p.net.now; kept = [] } };
+    ghost view = { λ p. record { net = p.net.now; kept = p.states.items } };
 
-    ghost invariant = { λ p. IsValid p.net.now
-        × (p.steps.items ≡ steps_of p.net.now (length p.net.now.wires))
+    ghost invariant = { λ p. ArePlanned p.net.now p.steps.items p.states.items
         × (length p.values.items ≡ length p.net.now.wires) };
 }
 
@@ -41,8 +42,14 @@ impl<'a> Plan<'a> {
         ensures start { IfOk result (λ p. IsAfter net.now [] p.kept) }
     {
         let steps = resolve(alloc, net)?;
+        let states = start(alloc, net)?;
         let values = vec![in alloc; 0; net.wires().len()]?;
-        Ok(Plan { net, steps, values })
+        Ok(Plan {
+            net,
+            steps,
+            states,
+            values,
+        })
     }
 
     /// Evaluates one more row, with one number for each input in the order of the wires, raw counts of its
@@ -57,7 +64,14 @@ impl<'a> Plan<'a> {
         ensures values { (rows : List (List ℤ)) → IsAfter self.old.net rows self.old.kept
             → out.new ≡ outputs_of self.old.net (inputs.now ∷ rows) }
     {
-        evaluate(&self.steps, self.net.outs(), inputs, &mut self.values, out);
+        evaluate(
+            self.net,
+            &self.steps,
+            &mut self.states,
+            inputs,
+            &mut self.values,
+            out,
+        );
     }
 
     /// Goes back to before the first row.
@@ -65,7 +79,6 @@ impl<'a> Plan<'a> {
         ensures net { self.new.net ≡ self.old.net }
         ensures start { IsAfter self.old.net [] self.new.kept }
     {
-        // Nothing is kept between rows, so there is nothing to forget.
-        let _ = &self.net;
+        restart(self.net, &mut self.states);
     }
 }

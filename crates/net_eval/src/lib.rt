@@ -4,5 +4,8 @@
 mod evaluator;
 mod filling;
 mod resolving;
+mod states;
+mod steps;
 
 pub use evaluator::Plan;
+pub use states::State;

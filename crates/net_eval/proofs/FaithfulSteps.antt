@@ -1,0 +1,83 @@
+-- What the proof about a row asks of the step of each kind of item: it is ready, and gives the machine's value; and what its wire
+-- keeps is what is to be kept.
+use Rattle.std.proofs.Common.{◌≡◌, ℕ, ◌<◌, List, [], ◌∷◌, map, length, get_or, ℤ, pos, sym, subst}
+use Rattle.std.specs.Prelude.{Option, Some, None, IfSome}
+use Rattle.std.proofs.Math.ListN.{get_or-map}
+use Rattle.fx_core.specs.declared.word_type.Ty.{Ty}
+use Rattle.fx_core.specs.Types.{Holds}
+use Rattle.net_model.specs.declared.wires.WireNo.{WireNo}
+use Rattle.net_model.specs.declared.wires.Kind.{Kind}
+use Rattle.net_model.specs.declared.wires.Kind.TheVariants.{Num}
+use Rattle.net_model.specs.declared.wires.Item.{Item}
+use Rattle.net_model.specs.Wires.{NetData, wire_at, inputs_of}
+use Rattle.net_model.proofs.ValidityFacts.{IsInKind, IsGoodArgument, number_kind}
+use Rattle.net_meaning.specs.Cells.{Cell, plain, cell_at}
+use Rattle.net_meaning.specs.Blocks.{machine}
+use Rattle.net_meaning.specs.Runs.{equation_of, row_of}
+use Rattle.net_eval.specs.declared.states.State.{State}
+use Rattle.net_eval.specs.After.{kept_by}
+use Rattle.net_eval.specs.States.{MayKeep, item_start}
+use Rattle.net_eval.specs.Steps.{item_step, step_value, state_behind, value_at, IsReady}
+use Rattle.net_eval.specs.Typing.{AreTyped}
+
+-- ---- values in their kinds
+
+-- each of the first n values lies in the kind of its wire
+abbrev pub AreHeld : NetData → List ℤ → ℕ → Type 0
+AreHeld net values n = (k : ℕ) → k < n → IsInKind (wire_at net.wires k).kind (value_at values k)
+
+-- a value of a type lies in the kind of a wire of the type
+pub held_in_kind : (ty : Ty) (kind : Kind) (point : ℕ) (v : ℤ) → kind ≡ Num ty point → Holds ty v → IsInKind kind v
+held_in_kind ty kind point v e h = subst (λ k. IsInKind k v) (sym e) (record { low = h.0; high = h.1 })
+
+kind_held : (ty : Ty) (kind : Kind) (point : ℕ) (v : ℤ) → kind ≡ Num ty point → IsInKind kind v → Holds ty v
+kind_held ty kind point v e h =
+    let k : IsInKind (Num ty point) v = subst (λ k. IsInKind k v) e h in
+    (k.low, k.high)
+
+-- an argument's value is one of its type
+pub given_held : (net : NetData) (values : List ℤ) (i : ℕ) (first : WireNo) (ty : Option Ty) (a : WireNo) → AreHeld net values i → IsGoodArgument net i first ty a → IfSome ty (λ t. Holds t (value_at values a.0))
+given_held net values i first (Some ty) a held g =
+    let k = number_kind ty (wire_at net.wires a.0).kind g.number in kind_held ty _ k.0 _ k.1 (held a.0 g.earlier)
+given_held net values i first None a held g = tt
+
+-- ---- a row's cells
+
+-- their values
+abbrev pub values_in : List (Cell ℤ) → List ℤ
+values_in cells = map (λ c. c.value) cells
+
+pub value_at-values_in : (cells : List (Cell ℤ)) (k : ℕ) → value_at (values_in cells) k ≡ (get_or cells k (plain machine (pos 0))).value
+unfolding machine
+value_at-values_in cells k = get_or-map (λ (c : Cell ℤ). c.value) cells k (plain machine (pos 0))
+
+-- ---- what is asked
+
+-- of the step of an item on wire i
+pub record IsFaithful (net : NetData) (i : ℕ) (item : Item) : Type 0 where
+  -- it is ready, where the earlier values lie in their kinds
+  pub ready : (state : State) (inputs values : List ℤ) → length inputs ≡ length (inputs_of net.wires) → length values ≡ i →
+      AreHeld net values i → MayKeep net i item state → IsReady (item_step net i item) state inputs values
+  -- its value lies in the kind of the wire
+  pub held : (state : State) (inputs values : List ℤ) → AreTyped net inputs → MayKeep net i item state →
+      IsInKind (wire_at net.wires i).kind (step_value (item_step net i item) state inputs values)
+  -- it is that of the machine, where the earlier values are and the wire keeps what is to be kept
+  pub right : (state : State) (inputs : List ℤ) (rows : List (List ℤ)) (past : List (List (Cell ℤ))) (cells : List (Cell ℤ)) →
+      state ≡ kept_by net rows past i item →
+      step_value (item_step net i item) state inputs (values_in cells)
+      ≡ (equation_of machine net (inputs ∷ rows) (cell_at machine (cells ∷ past)) i item).value
+
+-- of what the wire keeps
+pub record IsKeptRight (net : NetData) (i : ℕ) (item : Item) : Type 0 where
+  -- before the first row it keeps what is to be kept
+  pub start : item_start net i item ≡ kept_by net [] [] i item
+  -- and behind each row, where it does before it
+  pub next : (state : State) (inputs : List ℤ) (rows : List (List ℤ)) (past : List (List (Cell ℤ))) →
+      state ≡ kept_by net rows past i item →
+      state_behind (item_step net i item) state (values_in (row_of machine net (inputs ∷ rows) past i))
+      ≡ kept_by net (inputs ∷ rows) (row_of machine net (inputs ∷ rows) past (length net.wires) ∷ past) i item
+  -- it may keep what it does before the first row
+  pub may_start : MayKeep net i item (item_start net i item)
+  -- and behind each row, where the earlier values lie in their kinds
+  pub may_next : (state : State) (values : List ℤ) → length values ≡ i → AreHeld net values i → MayKeep net i item state →
+      MayKeep net i item (state_behind (item_step net i item) state values)
