@@ -34,7 +34,8 @@ in_ranges = both in_range
 
 -- all that a block holds: also the wires and numbers that its routine doesn't have
 abbrev pub held_by : Block → Form
-held_by (Arith op v x y z sh) = record { routine = NamedArith op; types = v; wires = x ∷ y ∷ z ∷ []; numbers = pos sh ∷ [] }
+held_by (Arith op v x y z sh) =
+    record { routine = NamedArith op; types = v; wires = x ∷ y ∷ z ∷ []; numbers = pos sh ∷ [] }
 held_by (Scaled op v x y) = record { routine = NamedScaled op; types = v; wires = x ∷ y ∷ []; numbers = [] }
 
 -- the signature of a form's routine at its types
@@ -90,6 +91,8 @@ number_or_zero numbers p = get_or numbers p (pos 0)
 unfoldable pub block_of : Form → Block
 block_of form = by form.routine form.types form.wires form.numbers where
   by : Routine → Types → List WireNo → List ℤ → Block
-  by (NamedArith op) v wires numbers = Arith op v (wire_or_first wires 0) (wire_or_first wires 1) (wire_or_first wires 2) (unsigned_abs (number_or_zero numbers 0))
+  by (NamedArith op) v wires numbers =
+      let wire : ℕ → WireNo = wire_or_first wires in
+      Arith op v (wire 0) (wire 1) (wire 2) (unsigned_abs (number_or_zero numbers 0))
   by (NamedScaled op) v wires numbers = Scaled op v (wire_or_first wires 0) (wire_or_first wires 1)
   by other v wires numbers = Arith Mod v (first_of wires) (first_of wires) (first_of wires) 0

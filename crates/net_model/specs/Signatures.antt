@@ -25,6 +25,11 @@ arith_ranges other = []
 
 -- the signature of a routine at its types; one that isn't built has an empty one
 unfoldable pub signature_of : Routine → Types → Signature
-signature_of (Arith op) v = record { sorts = map Number (argument_types op v); ranges = arith_ranges op; gives = Number v.o; smooth = is_smooth_operation op }
+signature_of (Arith op) v = record {
+  sorts = map Number (argument_types op v);
+  ranges = arith_ranges op;
+  gives = Number v.o;
+  smooth = is_smooth_operation op;
+}
 signature_of (Scaled op) v = record { sorts = map Number (scaled_types op v); ranges = []; gives = Number v.o; smooth = true }
 signature_of other v = record { sorts = []; ranges = []; gives = Number v.o; smooth = false }

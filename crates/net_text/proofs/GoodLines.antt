@@ -1,10 +1,9 @@
 -- What a line that has no fault gives: a good wire of a fresh name, or an output that isn't one yet.
-use Rattle.std.proofs.Common.{◌≡◌, ℕ, suc, ◌+◌, ◌-◌, ◌*◌, Bool, true, false, not, ◌&&◌, ◌||◌, ◌==◌, cond, nat_le, nat_lt, List, [], ◌∷◌, ◌++◌, length, take, drop, codes, bytes_eq, refl, sym, ap, ap₂, subst, ◌∙◌, ℤ, int_le, Option, Some, None, Result, Ok, Err, arith, append_assoc, append-nil}
+use Rattle.std.proofs.Common.{◌≡◌, ℕ, suc, ◌+◌, ◌-◌, ◌*◌, Bool, true, false, not, ◌&&◌, ◌||◌, ◌==◌, cond, nat_le, nat_lt, List, [], ◌∷◌, length, take, drop, codes, bytes_eq, refl, sym, ap, ap₂, subst, ◌∙◌, ℤ, int_le, Option, Some, None, Result, Ok, Err, arith}
 use Rattle.std.specs.Prelude.{ok_or, is_some, option_map, option_and_then}
 use Rattle.std.specs.Char.{is_ascii_digit}
 use Rattle.std.specs.List.{list_any, position_or_len}
 use Rattle.std.proofs.lemmas.Bool.Decides.{nat_tests}
-use Rattle.std.proofs.lemmas.List.Folds.{list_all-append}
 use Rattle.text_words.specs.Lines.{nth}
 use Rattle.text_words.specs.Names.{is_name}
 use Rattle.text_words.specs.Numbers.{digit_of}
@@ -287,14 +286,14 @@ named_within wires name w h =
     subst (λ w. nat_lt w.0 (length wires) ≡ true) (same_ok same w r.2) (place_within wires name r.0 (ok_or_ok (place_of wires name) LaterWire r.0 r.1))
 
 -- the wires that are named stand above
-named_earlier : (wires : List Wire) (so_far : List WireNo) (sorts : List Sort) (k : ℕ) (words : List (List ℕ)) (given : List WireNo) → wires_earlier (length wires) so_far ≡ true → wires_named wires so_far sorts k words ≡ Ok given → wires_earlier (length wires) given ≡ true
+named_earlier : (wires : List Wire) (sorts : List Sort) (k : ℕ) (words : List (List ℕ)) (given : List WireNo) → wires_named wires sorts k words ≡ Ok given → wires_earlier (length wires) given ≡ true
 unfolding wires_named
-named_earlier wires so_far [] k words given before h = subst (λ l. wires_earlier (length wires) l ≡ true) (same_ok so_far given h) before
-named_earlier wires so_far (s ∷ sorts) k words given before h =
-    let r = bind_ok (wire_named wires (nth words k)) (λ w. wires_named wires (so_far ++ w ∷ []) sorts (k + 1) words) given h in
-    let here = true_if_both (nat_lt r.0.0 (length wires)) true (named_within wires (nth words k) r.0 r.1) refl in
-    let more : wires_earlier (length wires) (so_far ++ r.0 ∷ []) ≡ true = list_all-append (λ w. nat_lt w.0 (length wires)) so_far (r.0 ∷ []) ∙ true_if_both (wires_earlier (length wires) so_far) (nat_lt r.0.0 (length wires) && true) before here in
-    named_earlier wires (so_far ++ r.0 ∷ []) sorts (k + 1) words given more r.2
+named_earlier wires [] k words given h = subst (λ l. wires_earlier (length wires) l ≡ true) (same_ok [] given h) refl
+named_earlier wires (s ∷ sorts) k words given h =
+    let w = bind_ok (wire_named wires (nth words k)) (λ w. wires_named wires sorts (k + 1) words >>= λ rest. Ok (w ∷ rest)) given h in
+    let ws = bind_ok (wires_named wires sorts (k + 1) words) (λ rest. Ok (w.0 ∷ rest)) given w.2 in
+    subst (λ l. wires_earlier (length wires) l ≡ true) (same_ok (w.0 ∷ ws.0) given ws.2)
+    (true_if_both (nat_lt w.0.0 (length wires)) (wires_earlier (length wires) ws.0) (named_within wires (nth words k) w.0 w.1) (named_earlier wires sorts (k + 1) words ws.0 ws.1))
 
 -- ---- its numbers
 
@@ -305,17 +304,14 @@ number_good range word n h =
     let d = bind_ok (demand (is_in_range range r.0) OutOfRange) (λ _. Ok r.0) n r.2 in
     subst (λ m. is_in_range range m ≡ true) (same_ok r.0 n d.2) (demand_ok (is_in_range range r.0) OutOfRange d.0 d.1)
 
-numbers_behind : (so_far : List ℤ) (ranges : List Range) (k : ℕ) (words : List (List ℕ)) (numbers : List ℤ) → numbers_in so_far ranges k words ≡ Ok numbers → (tail : List ℤ) × (numbers ≡ so_far ++ tail) × (in_ranges ranges tail ≡ true)
+numbers_good : (ranges : List Range) (k : ℕ) (words : List (List ℕ)) (numbers : List ℤ) → numbers_in ranges k words ≡ Ok numbers → in_ranges ranges numbers ≡ true
 unfolding numbers_in
-numbers_behind so_far [] k words numbers h = ([], sym (same_ok so_far numbers h) ∙ sym (append-nil so_far), refl)
-numbers_behind so_far (range ∷ ranges) k words numbers h =
-    let r = bind_ok (number_in range (nth words k)) (λ n. numbers_in (so_far ++ n ∷ []) ranges (k + 1) words) numbers h in
-    let t = numbers_behind (so_far ++ r.0 ∷ []) ranges (k + 1) words numbers r.2 in
-    (r.0 ∷ t.0, t.1 ∙ append_assoc so_far (r.0 ∷ []) t.0, true_if_both (is_in_range range r.0) (in_ranges ranges t.0) (number_good range (nth words k) r.0 r.1) t.2)
-
-numbers_good : (ranges : List Range) (k : ℕ) (words : List (List ℕ)) (numbers : List ℤ) → numbers_in [] ranges k words ≡ Ok numbers → in_ranges ranges numbers ≡ true
-numbers_good ranges k words numbers h =
-    let t = numbers_behind [] ranges k words numbers h in ap (in_ranges ranges) t.1 ∙ t.2
+numbers_good [] k words numbers h = subst (λ l. in_ranges [] l ≡ true) (same_ok [] numbers h) refl
+numbers_good (range ∷ ranges) k words numbers h =
+    let n = bind_ok (number_in range (nth words k)) (λ n. numbers_in ranges (k + 1) words >>= λ rest. Ok (n ∷ rest)) numbers h in
+    let ns = bind_ok (numbers_in ranges (k + 1) words) (λ rest. Ok (n.0 ∷ rest)) numbers n.2 in
+    subst (λ l. in_ranges (range ∷ ranges) l ≡ true) (same_ok (n.0 ∷ ns.0) numbers ns.2)
+    (true_if_both (is_in_range range n.0) (in_ranges ranges ns.0) (number_good range (nth words k) n.0 n.1) (numbers_good ranges (k + 1) words ns.0 ns.1))
 
 -- ---- its kind
 
@@ -381,13 +377,13 @@ unfolding given_line
 given_good lines net routine types words given h =
     let sig = signature_of routine types in
     let first = 5 + length sig.sorts in
-    let m = made routine types (demand (length words == first + length sig.ranges) BadCount) (demand (axis_passes (is_known lines net.wires) (nth words 2) && are_known lines net.wires sig.sorts 5 words) UnknownName) (demand (axis_passes (is_wire net.wires) (nth words 2)) LaterWire) (wires_named net.wires [] sig.sorts 5 words)
-    (λ form. agreed net form (nth words 2)) (demand (are_numbers sig.ranges first words) BadNumber) (numbers_in [] sig.ranges first words) (has_room net.wires) given h in
+    let m = made routine types (demand (length words == first + length sig.ranges) BadCount) (demand (axis_passes (is_known lines net.wires) (nth words 2) && are_known lines net.wires sig.sorts 5 words) UnknownName) (demand (axis_passes (is_wire net.wires) (nth words 2)) LaterWire) (wires_named net.wires sig.sorts 5 words)
+    (λ form. agreed net form (nth words 2)) (demand (are_numbers sig.ranges first words) BadNumber) (numbers_in sig.ranges first words) (has_room net.wires) given h in
     let agree = agreed_good net (record { routine = routine; types = types; wires = given.form.wires; numbers = [] }) (nth words 2) given.kind m.kind_is in
     record {
       routine_is = m.routine_is;
       types_are = m.types_are;
-      earlier = named_earlier net.wires [] sig.sorts 5 words given.form.wires refl m.wires_are;
+      earlier = named_earlier net.wires sig.sorts 5 words given.form.wires m.wires_are;
       found = agree.found;
       agrees = ap₂ (λ r t. form_agrees net given.kind (record { routine = r; types = t; wires = given.form.wires; numbers = [] })) m.routine_is m.types_are ∙ agree.agrees;
       fits = ap₂ (λ r t. in_ranges (signature_of r t).ranges given.form.numbers) m.routine_is m.types_are ∙ numbers_good sig.ranges first words given.form.numbers m.numbers_are;

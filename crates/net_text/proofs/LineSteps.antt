@@ -1,5 +1,5 @@
 -- What is left of a line's sorts and ranges at a place, and one more wire that its words name.
-use Rattle.std.proofs.Common.{◌≡◌, ℕ, ◌+◌, ◌<◌, List, ◌∷◌, length, drop, get_or, ap, sym, ◌∙◌, drop-cons, add-one, pos, [], ◌++◌, Result, Ok}
+use Rattle.std.proofs.Common.{◌≡◌, ℕ, ◌+◌, ◌<◌, List, ◌∷◌, length, drop, get_or, ap, sym, ◌∙◌, drop-cons, add-one, pos, ℤ, [], ◌++◌, ◌≤◌, Result, Ok, Err, refl, ap₂, append_assoc, append-nil, drop_of_length-le}
 use Rattle.text_words.specs.Lines.{nth}
 use Rattle.text_words.specs.Steps.{◌>>=◌}
 use Rattle.net_model.specs.declared.network.NetKind.{NetKind}
@@ -8,7 +8,7 @@ use Rattle.net_model.specs.declared.wires.Wire.{Wire}
 use Rattle.net_model.specs.declared.signatures.Sort.{Sort}
 use Rattle.net_model.specs.declared.signatures.Sort.TheVariants.{Truth}
 use Rattle.net_model.specs.declared.signatures.Range.{Range}
-use Rattle.net_text.specs.Forms.{wires_named, wire_named}
+use Rattle.net_text.specs.Forms.{wires_named, wire_named, numbers_in, number_in}
 
 left_at : {A : Type 0} (xs : List A) (i : ℕ) (d : A) → i < length xs → drop i xs ≡ get_or xs i d ∷ drop (i + 1) xs
 left_at xs i d lt = drop-cons xs i d lt ∙ ap (λ k. get_or xs i d ∷ drop k xs) (sym (add-one i))
@@ -19,10 +19,69 @@ sorts_left sorts i lt = left_at sorts i Truth lt
 pub ranges_left : (ranges : List Range) (i : ℕ) → i < length ranges → drop i ranges ≡ get_or ranges i (record { low = pos 0; high = 0 }) ∷ drop (i + 1) ranges
 ranges_left ranges i lt = left_at ranges i (record { low = pos 0; high = 0 }) lt
 
+-- what is read behind what was read
+abbrev pub behind : {A E : Type 0} → List A → Result (List A) E → Result (List A) E
+behind xs (Ok ys) = Ok (xs ++ ys)
+behind xs (Err e) = Err e
+
+pub behind_none : {A E : Type 0} (r : Result (List A) E) → behind [] r ≡ r
+behind_none (Ok ys) = refl
+behind_none (Err e) = refl
+
+behind_one : {A E : Type 0} (old : List A) (x : A) (r : Result (List A) E) → behind (old ++ x ∷ []) r ≡ behind old (r >>= λ rest. Ok (x ∷ rest))
+behind_one old x (Ok ys) = ap (λ l. Ok l) (append_assoc old (x ∷ []) ys)
+behind_one old x (Err e) = refl
+
 -- one more word that names a wire
 pub wires_step : (all : List Wire) (old new : List WireNo) (w : WireNo) (sorts : List Sort) (i k m : ℕ) (words : List (List ℕ)) (whole : Result (List WireNo) NetKind)
-    → i < length sorts → m ≡ k + 1 → new ≡ old ++ w ∷ [] → wire_named all (nth words k) ≡ Ok w → wires_named all old (drop i sorts) k words ≡ whole → wires_named all new (drop (i + 1) sorts) m words ≡ whole
+    → i < length sorts → m ≡ k + 1 → new ≡ old ++ w ∷ [] → wire_named all (nth words k) ≡ Ok w → behind old (wires_named all (drop i sorts) k words) ≡ whole → behind new (wires_named all (drop (i + 1) sorts) m words) ≡ whole
 unfolding wires_named
 wires_step all old new w sorts i k m words whole lt next more named below =
-    let e = ap (λ s. wires_named all old s k words) (sorts_left sorts i lt) in
-    rw (next, more) (sym (ap (λ r. r >>= λ w. wires_named all (old ++ w ∷ []) (drop (i + 1) sorts) (k + 1) words) named) ∙ sym e ∙ below)
+    let rest = wires_named all (drop (i + 1) sorts) (k + 1) words in
+    ap₂ (λ l n. behind l (wires_named all (drop (i + 1) sorts) n words)) more next
+    ∙ behind_one old w rest
+    ∙ ap (λ r. behind old (r >>= λ v. rest >>= λ ws. Ok (v ∷ ws))) (sym named)
+    ∙ ap (λ l. behind old (wires_named all l k words)) (sym (sorts_left sorts i lt))
+    ∙ below
+
+pub wires_stop : (all : List Wire) (old : List WireNo) (e : NetKind) (sorts : List Sort) (i k : ℕ) (words : List (List ℕ)) (whole : Result (List WireNo) NetKind)
+    → i < length sorts → wire_named all (nth words k) ≡ Err e → behind old (wires_named all (drop i sorts) k words) ≡ whole → Err e ≡ whole
+unfolding wires_named
+wires_stop all old e sorts i k words whole lt named below =
+    let rest = wires_named all (drop (i + 1) sorts) (k + 1) words in
+    ap (λ r. behind old (r >>= λ v. rest >>= λ ws. Ok (v ∷ ws))) (sym named)
+    ∙ ap (λ l. behind old (wires_named all l k words)) (sym (sorts_left sorts i lt))
+    ∙ below
+
+pub wires_end : (all : List Wire) (old : List WireNo) (sorts : List Sort) (i k : ℕ) (words : List (List ℕ)) (whole : Result (List WireNo) NetKind)
+    → length sorts ≤ i → behind old (wires_named all (drop i sorts) k words) ≡ whole → Ok old ≡ whole
+unfolding wires_named
+wires_end all old sorts i k words whole past below =
+    ap (λ l. Ok l) (sym (append-nil old)) ∙ ap (λ l. behind old (wires_named all l k words)) (sym (drop_of_length-le sorts past)) ∙ below
+
+-- one more word that writes a number
+pub numbers_step : (old new : List ℤ) (n : ℤ) (ranges : List Range) (i k m : ℕ) (words : List (List ℕ)) (whole : Result (List ℤ) NetKind)
+    → i < length ranges → m ≡ k + 1 → new ≡ old ++ n ∷ [] → number_in (get_or ranges i (record { low = pos 0; high = 0 })) (nth words k) ≡ Ok n → behind old (numbers_in (drop i ranges) k words) ≡ whole → behind new (numbers_in (drop (i + 1) ranges) m words) ≡ whole
+unfolding numbers_in
+numbers_step old new n ranges i k m words whole lt next more found below =
+    let rest = numbers_in (drop (i + 1) ranges) (k + 1) words in
+    ap₂ (λ l n. behind l (numbers_in (drop (i + 1) ranges) n words)) more next
+    ∙ behind_one old n rest
+    ∙ ap (λ r. behind old (r >>= λ v. rest >>= λ ws. Ok (v ∷ ws))) (sym found)
+    ∙ ap (λ l. behind old (numbers_in l k words)) (sym (ranges_left ranges i lt))
+    ∙ below
+
+pub numbers_stop : (old : List ℤ) (e : NetKind) (ranges : List Range) (i k : ℕ) (words : List (List ℕ)) (whole : Result (List ℤ) NetKind)
+    → i < length ranges → number_in (get_or ranges i (record { low = pos 0; high = 0 })) (nth words k) ≡ Err e → behind old (numbers_in (drop i ranges) k words) ≡ whole → Err e ≡ whole
+unfolding numbers_in
+numbers_stop old e ranges i k words whole lt found below =
+    let rest = numbers_in (drop (i + 1) ranges) (k + 1) words in
+    ap (λ r. behind old (r >>= λ v. rest >>= λ ws. Ok (v ∷ ws))) (sym found)
+    ∙ ap (λ l. behind old (numbers_in l k words)) (sym (ranges_left ranges i lt))
+    ∙ below
+
+pub numbers_end : (old : List ℤ) (ranges : List Range) (i k : ℕ) (words : List (List ℕ)) (whole : Result (List ℤ) NetKind)
+    → length ranges ≤ i → behind old (numbers_in (drop i ranges) k words) ≡ whole → Ok old ≡ whole
+unfolding numbers_in
+numbers_end old ranges i k words whole past below =
+    ap (λ l. Ok l) (sym (append-nil old)) ∙ ap (λ l. behind old (numbers_in l k words)) (sym (drop_of_length-le ranges past)) ∙ below

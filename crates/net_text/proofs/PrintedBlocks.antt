@@ -1,5 +1,5 @@
 -- A printed form is read as itself: no family is named.
-use Rattle.std.proofs.Common.{◌≡◌, ℕ, zero, suc, ◌≤◌, ◌+◌, ◌^◌, true, eqb, leb, nat_lt, int_le, List, [], ◌∷◌, ◌++◌, map, length, take, drop, codes, ℤ, pos, negsuc, unsigned_abs, Some, Ok, refl, sym, ap, ◌∙◌, arith, ltb-true, leb-true, eq-eqb, le-leb, append_assoc, append-nil, length-append}
+use Rattle.std.proofs.Common.{◌≡◌, ℕ, zero, suc, ◌≤◌, ◌+◌, ◌^◌, true, eqb, leb, nat_lt, int_le, List, [], ◌∷◌, ◌++◌, map, length, take, drop, codes, ℤ, pos, negsuc, unsigned_abs, Some, Ok, refl, sym, ap, ◌∙◌, arith, ltb-true, leb-true, eq-eqb, le-leb, append-nil, length-append}
 use Rattle.std.specs.Fmt.{signed_decimal}
 use Rattle.std.specs.List.{list_all}
 use Rattle.std.proofs.lemmas.Bool.{and_parts, and_from}
@@ -62,17 +62,16 @@ known_printed lines all i (s ∷ sorts) (w ∷ given) k words rest distinct with
     rw (here.0, is_wire-earlier all i w.0 distinct (ltb-true w.0 i before.0) within) (known_printed lines all i sorts given (k + 1) words rest distinct within (omega arith) before.1 here.1)
 
 -- and are read as the wires
-wires_printed : (all : List Wire) (i : ℕ) (so_far : List WireNo) (sorts : List Sort) (given : List WireNo) (k : ℕ) (words rest : List (List ℕ)) → are_distinct (map (λ w. w.name) all) ≡ true → i ≤ length all
-    → length sorts ≡ length given → wires_earlier i given ≡ true → drop k words ≡ argument_words all given ++ rest → wires_named (take i all) so_far sorts k words ≡ Ok (so_far ++ given)
+wires_printed : (all : List Wire) (i : ℕ) (sorts : List Sort) (given : List WireNo) (k : ℕ) (words rest : List (List ℕ)) → are_distinct (map (λ w. w.name) all) ≡ true → i ≤ length all
+    → length sorts ≡ length given → wires_earlier i given ≡ true → drop k words ≡ argument_words all given ++ rest → wires_named (take i all) sorts k words ≡ Ok given
 unfolding wires_named wire_named
-wires_printed all i so_far [] [] k words rest distinct within count earlier e = ap (λ l. Ok l) (sym (append-nil so_far))
-wires_printed all i so_far (s ∷ sorts) [] k words rest distinct within count earlier e = absurd (omega arith)
-wires_printed all i so_far [] (w ∷ given) k words rest distinct within count earlier e = absurd (omega arith)
-wires_printed all i so_far (s ∷ sorts) (w ∷ given) k words rest distinct within count earlier e =
+wires_printed all i [] [] k words rest distinct within count earlier e = refl
+wires_printed all i (s ∷ sorts) [] k words rest distinct within count earlier e = absurd (omega arith)
+wires_printed all i [] (w ∷ given) k words rest distinct within count earlier e = absurd (omega arith)
+wires_printed all i (s ∷ sorts) (w ∷ given) k words rest distinct within count earlier e =
     let here = at_drop words k (wire_at all w.0).name (argument_words all given ++ rest) e in
     let before = and_parts (nat_lt w.0 i) (wires_earlier i given) earlier in
-    rw (here.0, place_of-wire_at all i w.0 distinct (ltb-true w.0 i before.0) within)
-    (wires_printed all i (so_far ++ w ∷ []) sorts given (k + 1) words rest distinct within (omega arith) before.1 here.1 ∙ ap (λ l. Ok l) (append_assoc so_far (w ∷ []) given))
+    rw (here.0, place_of-wire_at all i w.0 distinct (ltb-true w.0 i before.0) within, wires_printed all i sorts given (k + 1) words rest distinct within (omega arith) before.1 here.1) refl
 
 -- behind the names stands the rest
 behind_names : (all : List Wire) (given : List WireNo) (k : ℕ) (words rest : List (List ℕ)) → drop k words ≡ argument_words all given ++ rest → drop (k + length given) words ≡ rest
@@ -122,16 +121,16 @@ numbers_are (r ∷ ranges) (n ∷ numbers) k words rest short h e =
     let s = and_parts (is_short r) (list_all is_short ranges) short in
     rw (here.0, number_read r n s.0 inside.0) (numbers_are ranges numbers (k + 1) words rest s.1 inside.1 here.1)
 
-numbers_printed : (so_far : List ℤ) (ranges : List Range) (numbers : List ℤ) (k : ℕ) (words rest : List (List ℕ)) → list_all is_short ranges ≡ true → in_ranges ranges numbers ≡ true → drop k words ≡ number_words numbers ++ rest → numbers_in so_far ranges k words ≡ Ok (so_far ++ numbers)
+numbers_printed : (ranges : List Range) (numbers : List ℤ) (k : ℕ) (words rest : List (List ℕ)) → list_all is_short ranges ≡ true → in_ranges ranges numbers ≡ true → drop k words ≡ number_words numbers ++ rest → numbers_in ranges k words ≡ Ok numbers
 unfolding numbers_in number_in
-numbers_printed so_far [] [] k words rest short h e = ap (λ l. Ok l) (sym (append-nil so_far))
-numbers_printed so_far (r ∷ ranges) [] k words rest short h e = absurd (cc)
-numbers_printed so_far [] (n ∷ numbers) k words rest short h e = absurd (cc)
-numbers_printed so_far (r ∷ ranges) (n ∷ numbers) k words rest short h e =
+numbers_printed [] [] k words rest short h e = refl
+numbers_printed (r ∷ ranges) [] k words rest short h e = absurd (cc)
+numbers_printed [] (n ∷ numbers) k words rest short h e = absurd (cc)
+numbers_printed (r ∷ ranges) (n ∷ numbers) k words rest short h e =
     let here = at_drop words k (signed_decimal n) (number_words numbers ++ rest) e in
     let inside = and_parts (in_range r n) (in_ranges ranges numbers) h in
     let s = and_parts (is_short r) (list_all is_short ranges) short in
-    rw (here.0, number_read r n s.0 inside.0, inside.0) (numbers_printed (so_far ++ n ∷ []) ranges numbers (k + 1) words rest s.1 inside.1 here.1 ∙ ap (λ l. Ok l) (append_assoc so_far (n ∷ []) numbers))
+    rw (here.0, number_read r n s.0 inside.0, inside.0, numbers_printed ranges numbers (k + 1) words rest s.1 inside.1 here.1) refl
 
 -- ---- the whole
 
@@ -162,10 +161,10 @@ given_printed lines net i name kind form distinct within new good is =
     let behind : drop (5 + length sig.sorts) words ≡ rest ++ [] = ap (λ n. drop (5 + n) words) sorts ∙ behind_names all form.wires 5 words rest refl ∙ sym (append-nil rest) in
     let count : eqb (length words) (5 + length sig.sorts + length sig.ranges) ≡ true = let n = length_given all form.wires form.numbers in eq-eqb (length words) (5 + length sig.sorts + length sig.ranges) (omega arith) in
     let known = known_printed lines all i sig.sorts form.wires 5 words rest distinct within sorts is.earlier refl in
-    let read = wires_printed all i [] sig.sorts form.wires 5 words rest distinct within sorts is.earlier refl in
+    let read = wires_printed all i sig.sorts form.wires 5 words rest distinct within sorts is.earlier refl in
     let fits = agree_so_far all i sig.sorts form.wires is.earlier is.agree in
     let are = numbers_are sig.ranges form.numbers (5 + length sig.sorts) words [] short is.fits behind in
-    let numbers = numbers_printed [] sig.ranges form.numbers (5 + length sig.sorts) words [] short is.fits behind in
+    let numbers = numbers_printed sig.ranges form.numbers (5 + length sig.sorts) words [] short is.fits behind in
     rw (count, is_position-kind_word kind, known, read, kind_of-kind_word kind good, is.taken, fits, is.gives, are, numbers, new.room)
 
 pub form_printed : (lines : List (List ℕ)) (net : NetData) (i : ℕ) (name : List ℕ) (kind : Kind) (form : Form) → are_distinct (map (λ w. w.name) net.wires) ≡ true → i ≤ length net.wires

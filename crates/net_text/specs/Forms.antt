@@ -1,6 +1,6 @@
 -- The lines of a network's text, one definition for each form. The order of its lines is the order in which a
 -- line is tested; the first test that fails says what is wrong.
-use Rattle.std.specs.Prelude.{ℕ, ◌+◌, Bool, true, false, not, ◌&&◌, ◌||◌, ◌==◌, nat_le, nat_lt, List, [], ◌∷◌, ◌++◌, length, ℤ, codes, bytes_eq, Option, Some, None, ok_or, is_some, Result, Ok, Err, if◌then◌else◌}
+use Rattle.std.specs.Prelude.{ℕ, ◌+◌, Bool, true, false, not, ◌&&◌, ◌||◌, ◌==◌, nat_le, nat_lt, List, [], ◌∷◌, length, ℤ, codes, bytes_eq, Option, Some, None, ok_or, is_some, Result, Ok, Err, if◌then◌else◌}
 use Rattle.std.specs.List.{list_any}
 use Rattle.text_words.specs.Lines.{nth, words_of}
 use Rattle.text_words.specs.Names.{is_name}
@@ -166,12 +166,13 @@ wire_named wires name = do
   place ← wire_above wires name
   Ok (record { 0 = place })
 
--- the wires that the words from number k on name, one for each sort, behind those that were read
-unfoldable pub wires_named : List Wire → List WireNo → List Sort → ℕ → List (List ℕ) → Result (List WireNo) NetKind
-wires_named wires so_far [] k words = Ok so_far
-wires_named wires so_far (sort ∷ sorts) k words = do
+-- the wires that the words from number k on name, one for each sort
+unfoldable pub wires_named : List Wire → List Sort → ℕ → List (List ℕ) → Result (List WireNo) NetKind
+wires_named wires [] k words = Ok []
+wires_named wires (sort ∷ sorts) k words = do
   w ← wire_named wires (nth words k)
-  wires_named wires (so_far ++ w ∷ []) sorts (k + 1) words
+  rest ← wires_named wires sorts (k + 1) words
+  Ok (w ∷ rest)
 
 -- the words from number k on, one for each range, are numbers
 unfoldable pub are_numbers : List Range → ℕ → List (List ℕ) → Bool
@@ -185,12 +186,13 @@ number_in range word = do
   _ ← demand (is_in_range range number) OutOfRange
   Ok number
 
--- the numbers that the words from number k on write, one for each range, behind those that were read
-unfoldable pub numbers_in : List ℤ → List Range → ℕ → List (List ℕ) → Result (List ℤ) NetKind
-numbers_in so_far [] k words = Ok so_far
-numbers_in so_far (range ∷ ranges) k words = do
+-- the numbers that the words from number k on write, one for each range
+unfoldable pub numbers_in : List Range → ℕ → List (List ℕ) → Result (List ℤ) NetKind
+numbers_in [] k words = Ok []
+numbers_in (range ∷ ranges) k words = do
   number ← number_in range (nth words k)
-  numbers_in (so_far ++ number ∷ []) ranges (k + 1) words
+  rest ← numbers_in ranges (k + 1) words
+  Ok (number ∷ rest)
 
 -- the axis that a type word names, if it names one, passes the test
 abbrev pub axis_passes : (List ℕ → Bool) → List ℕ → Bool
@@ -202,10 +204,10 @@ given_line lines net routine types signature words = do
   _ ← demand (length words == 5 + length signature.sorts + length signature.ranges) BadCount
   _ ← demand (axis_passes (is_known lines net.wires) (nth words 2) && are_known lines net.wires signature.sorts 5 words) UnknownName
   _ ← demand (axis_passes (is_wire net.wires) (nth words 2)) LaterWire
-  wires ← wires_named net.wires [] signature.sorts 5 words
+  wires ← wires_named net.wires signature.sorts 5 words
   kind ← agreed net (record { routine = routine; types = types; wires = wires; numbers = [] }) (nth words 2)
   _ ← demand (are_numbers signature.ranges (5 + length signature.sorts) words) BadNumber
-  numbers ← numbers_in [] signature.ranges (5 + length signature.sorts) words
+  numbers ← numbers_in signature.ranges (5 + length signature.sorts) words
   _ ← has_room net.wires
   Ok (record { kind = kind; form = record { routine = routine; types = types; wires = wires; numbers = numbers } })
 

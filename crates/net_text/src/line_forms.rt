@@ -293,11 +293,11 @@ fn wire_above(above: &Above, name: &[u8]) -> Result<usize, NetKind>
 }
 
 // The wires that a routine is given, one for each sort.
-#[tactic(auto, using(crate::proofs::LineSteps::sorts_left), unfolding(crate::specs::Forms::wires_named))]
+#[tactic(auto, using(crate::proofs::LineSteps::behind_none))]
 fn wires_named(above: &Above, sorts: &[Sort], line: &[u8]) -> Result<Few<WireNo>, NetKind>
     requires few { length sorts.now ≤ 4 }
     requires room { length above.now.net.wires ≤ 512 }
-    ensures { result ≡ wires_named above.now.net.wires [] sorts.now 5 (words_of line.now) }
+    ensures { result ≡ wires_named above.now.net.wires sorts.now 5 (words_of line.now) }
 {
     let mut wires = Few::of([WireNo(0); 4], 0);
     for i in 0..sorts.len() {
@@ -379,11 +379,11 @@ fn is_number(word: &[u8]) -> bool
 }
 
 // The numbers that the words from number `first` on write, one for each range.
-#[tactic(auto, unfolding(crate::specs::Forms::numbers_in))]
+#[tactic(auto, using(crate::proofs::LineSteps::behind_none))]
 fn numbers_in(ranges: &[Range], first: usize, line: &[u8]) -> Result<Few<i64>, NetKind>
     requires few { length ranges.now ≤ 4 }
     requires near { first ≤ 9 }
-    ensures { result ≡ numbers_in [] ranges.now first (words_of line.now) }
+    ensures { result ≡ numbers_in ranges.now first (words_of line.now) }
 {
     let mut numbers = Few::of([0; 4], 0);
     for i in 0..ranges.len() {
