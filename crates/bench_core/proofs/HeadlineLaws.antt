@@ -2,7 +2,6 @@
 use Rattle.std.proofs.Common.{◌<◌, ◌≡◌, ℕ, Bool, true, false, List, Option, Some, None, Ok, refl, sym, ◌∙◌, subst, append-nil, arith}
 use Rattle.std.specs.Prelude.{⊤, codes, ◌&&◌}
 use Rattle.fx_io.specs.Outside.{bytes_of}
-use Rattle.net_model.specs.declared.wires.Wire.{Wire}
 use Rattle.net_model.specs.Wires.{NetData}
 use Rattle.part_rules.specs.declared.bounds.Bounds.{Bounds}
 use Rattle.cert_rules.specs.Acceptance.{first_rejected}
@@ -32,38 +31,38 @@ use Rattle.bench_core.specs.Clauses.{Certifies}
 bad_certificate_above : (name : List ℕ) (fault : CertFault) → 0 < (bad_certificate name fault).status
 bad_certificate_above name fault = omega arith
 
-certificate_above : (wires : List Wire) (name bytes : List ℕ) → RefusesAbove (certificate_in wires name bytes)
+certificate_above : (net : NetData) (name bytes : List ℕ) → RefusesAbove (certificate_in net name bytes)
 unfolding certificate_in
-certificate_above wires name bytes = faultless_above (bad_certificate name) (certificate_of wires bytes) (bad_certificate_above name)
+certificate_above net name bytes = faultless_above (bad_certificate name) (certificate_of net bytes) (bad_certificate_above name)
 
-certificate_given : (wires : List Wire) (name bytes : List ℕ) (entries : List Bounds) → certificate_in wires name bytes ≡ Ok entries → certificate_of wires bytes ≡ Ok entries
+certificate_given : (net : NetData) (name bytes : List ℕ) (entries : List Bounds) → certificate_in net name bytes ≡ Ok entries → certificate_of net bytes ≡ Ok entries
 unfolding certificate_in
-certificate_given wires name bytes entries h = given_faultless (bad_certificate name) (certificate_of wires bytes) entries h
+certificate_given net name bytes entries h = given_faultless (bad_certificate name) (certificate_of net bytes) entries h
 
 -- ---- acceptance
 
-none_rejected : (wires : List Wire) (k : Option ℕ) (x : ⊤) → if_none_rejected wires k ≡ Ok x → k ≡ None
-none_rejected wires None x h = refl
-none_rejected wires (Some k) x h = absurd (ok_is_not_error x (not_accepted (part_name wires k)) (sym h))
+none_rejected : (net : NetData) (k : Option ℕ) (x : ⊤) → if_none_rejected net k ≡ Ok x → k ≡ None
+none_rejected net None x h = refl
+none_rejected net (Some k) x h = absurd (ok_is_not_error x (not_accepted (part_name net k)) (sym h))
 
-rejected_above : (wires : List Wire) (k : Option ℕ) → RefusesAbove (if_none_rejected wires k)
-rejected_above wires None r h = absurd (ok_is_not_error tt r h)
-rejected_above wires (Some k) r h = above_from (not_accepted (part_name wires k)) (omega arith) r h
+rejected_above : (net : NetData) (k : Option ℕ) → RefusesAbove (if_none_rejected net k)
+rejected_above net None r h = absurd (ok_is_not_error tt r h)
+rejected_above net (Some k) r h = above_from (not_accepted (part_name net k)) (omega arith) r h
 
-acceptance_above : (wires : List Wire) (entries : List Bounds) → RefusesAbove (acceptance wires entries)
+acceptance_above : (net : NetData) (entries : List Bounds) → RefusesAbove (acceptance net entries)
 unfolding acceptance
-acceptance_above wires entries = rejected_above wires (first_rejected wires entries)
+acceptance_above net entries = rejected_above net (first_rejected net entries)
 
-acceptance_given : (wires : List Wire) (entries : List Bounds) (x : ⊤) → acceptance wires entries ≡ Ok x → first_rejected wires entries ≡ None
+acceptance_given : (net : NetData) (entries : List Bounds) (x : ⊤) → acceptance net entries ≡ Ok x → first_rejected net entries ≡ None
 unfolding acceptance
-acceptance_given wires entries x h = none_rejected wires (first_rejected wires entries) x h
+acceptance_given net entries x h = none_rejected net (first_rejected net entries) x h
 
 -- ---- the headline
 
 certifies : (net cert : List ℕ) (network : NetData) (entries : List Bounds) → network_of net ≡ Ok network → certificate_of network cert ≡ Ok entries → first_rejected network entries ≡ None → IsCertified net cert
 certifies net cert network entries n c k =
-    let complete = certificate_of-complete network.wires cert entries c in
-    let accepts = accepts_from_none_rejected network.wires entries (all_are_smooth network (network_of_valid net network n)) complete k in
+    let complete = certificate_of-complete network cert entries c in
+    let accepts = accepts_from_none_rejected network entries (all_are_smooth network (network_of_valid net network n)) complete k in
     record {
       network = network;
       entries = entries;
@@ -83,11 +82,11 @@ unfolding check_answer check_bytes check_entries
 check_done files net cert h =
     let n = passed_both files net cert text_limit (check_bytes cert) h in
     let bytes = bytes_of files cert in
-    let c = passed (certificate_in n.network cert bytes) (check_entries n.network) (certificate_above n.network.wires cert bytes) n.done_after in
-    let a = passed (acceptance n.network c.given) tell_accepted (acceptance_above n.network.wires c.given) c.done_after in
+    let c = passed (certificate_in n.network cert bytes) (check_entries n.network) (certificate_above n.network cert bytes) n.done_after in
+    let a = passed (acceptance n.network c.given) tell_accepted (acceptance_above n.network c.given) c.done_after in
     record {
       prints = n.prints ∙ c.prints ∙ a.prints ∙ append-nil accepted_line;
-      certified = certifies (bytes_of files net) bytes n.network c.given n.is_network (certificate_given n.network.wires cert bytes c.given c.gives) (acceptance_given n.network.wires c.given a.given a.gives);
+      certified = certifies (bytes_of files net) bytes n.network c.given n.is_network (certificate_given n.network cert bytes c.given c.gives) (acceptance_given n.network c.given a.given a.gives);
     }
 
 -- the words `check NET CERT` ask for `check`, or are outside the grammar

@@ -50,7 +50,7 @@ same_recording r h f =
 record ReadOut (net : NetData) (bytes : List ℕ) (o : Outcome) : Type 0 where
   pub rows : List (List ℤ)
   pub is_recording : recording_of net.wires bytes ≡ record { is_headed = true; rows = rows; fault = None }
-  pub has_inputs : HasAllInputs net.wires rows
+  pub has_inputs : HasAllInputs net rows
   pub prints : o.out ≡ run_text net (table machine net rows)
 
 bytes_read_out : (net : NetData) (bytes : List ℕ) → (run_bytes net bytes).status ≡ 0 → ReadOut net bytes (run_bytes net bytes)

@@ -10,7 +10,7 @@ use Rattle.net_model.specs.declared.wires.Kind.TheVariants.{Num}
 use Rattle.net_model.specs.declared.wires.Item.{Item}
 use Rattle.net_model.specs.declared.wires.Item.TheVariants.{Input, Const, Block as OfBlock}
 use Rattle.net_model.specs.declared.wires.Wire.{Wire}
-use Rattle.net_model.specs.Wires.{wire_at, is_input, input_place, with_input, inputs_from, inputs_of}
+use Rattle.net_model.specs.Wires.{NetData, wire_at, is_input, input_place, with_input, inputs_from, inputs_of}
 use Rattle.net_model.specs.Validity.{kind_holds}
 use Rattle.net_eval.specs.Typing.{AreTyped}
 use Rattle.rec_csv.specs.declared.columns.Column.{Column}
@@ -155,20 +155,20 @@ row_values header line values h =
     let q = then_ok (demand (nat_le header.width (length p.0)) BadWidth) (λ _. input_values header.columns p.0) values p.2 in
     (p.0, q.2)
 
-row_is_typed : (wires : List Wire) (head line : List ℕ) (header : HeaderData) (values : List ℤ) → header_of wires head ≡ Ok header → row_of header line ≡ Ok values → AreTyped wires values
-row_is_typed wires head line header values is_header is_row i lt input =
-    let h = header_columns wires head header is_header in
+row_is_typed : (net : NetData) (head line : List ℕ) (header : HeaderData) (values : List ℤ) → header_of net.wires head ≡ Ok header → row_of header line ≡ Ok values → AreTyped net values
+row_is_typed net head line header values is_header is_row i lt input =
+    let h = header_columns net.wires head header is_header in
     let r = row_values header line values is_row in
-    let n = numbered wires i lt input in
-    let k = column_kinds h.0 wires (inputs_of wires) header.columns (input_place wires i) h.1 n.0 in
-    let v = value_kinds header.columns r.0 values (input_place wires i) r.1 k.0 in
-    let same : (get_or header.columns (input_place wires i) no_column).kind ≡ (wire_at wires i).kind = k.1 ∙ ap (λ w. (wire_at wires w).kind) n.1 in
-    subst (λ kind. kind_holds kind (get_or values (input_place wires i) (pos 0)) ≡ true) same v
+    let n = numbered net.wires i lt input in
+    let k = column_kinds h.0 net.wires (inputs_of net.wires) header.columns (input_place net.wires i) h.1 n.0 in
+    let v = value_kinds header.columns r.0 values (input_place net.wires i) r.1 k.0 in
+    let same : (get_or header.columns (input_place net.wires i) no_column).kind ≡ (wire_at net.wires i).kind = k.1 ∙ ap (λ w. (wire_at net.wires w).kind) n.1 in
+    subst (λ kind. kind_holds kind (get_or values (input_place net.wires i) (pos 0)) ≡ true) same v
 
 -- ---- for the header of some line
 
-pub typed_row : (wires : List Wire) (header : HeaderData) (line : List ℕ) (values : List ℤ) → IsHeaderOf wires header → row_of header line ≡ Ok values → AreTyped wires values
-typed_row wires header line values head is = row_is_typed wires head.0 line header values head.1 is
+pub typed_row : (net : NetData) (header : HeaderData) (line : List ℕ) (values : List ℤ) → IsHeaderOf net.wires header → row_of header line ≡ Ok values → AreTyped net values
+typed_row net header line values head is = row_is_typed net head.0 line header values head.1 is
 
 pub one_for_each : (wires : List Wire) (header : HeaderData) (values : List ℤ) → IsHeaderOf wires header → length values ≡ length (inputs_of wires) → length values ≡ length header.columns
 one_for_each wires header values head len =

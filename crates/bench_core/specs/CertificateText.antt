@@ -47,7 +47,7 @@ after_part net entries words = do
 -- how a certificate is read for these wires: below `cert 1` each line is the entry of the next part, and at the end
 -- each part has one
 abbrev pub certificate_reader : NetData → Reader (List Bounds) CertKind CertFault
-certificate_reader wires = record {
+certificate_reader net = record {
   keyword = codes "cert";
   no_head = NoHead;
   start = [];

@@ -10,7 +10,7 @@ use Rattle.bench_core.proofs.cert_reader.entries_below.Goals as goal
 -- a line without words
 pub loop-line-preserved : goal.loop-line-preserved
 loop-line-preserved c =
-    let wires = c.args.net.now.wires in
+    let wires = c.args.net.now in
     let above = c.loop-line.above in
     let entries = c.loop-line.entries.items in
     let line = c.in-Some.line.now in
@@ -22,7 +22,7 @@ loop-line-preserved c =
 
 pub returns-in-Err-clause-reads : goal.returns-in-Err-clause-reads
 returns-in-Err-clause-reads c =
-    let wires = c.args.net.now.wires in
+    let wires = c.args.net.now in
     let above = c.loop-line.above in
     let entries = c.loop-line.entries.items in
     let line = c.in-Some.line.now in
@@ -33,7 +33,7 @@ returns-in-Err-clause-reads c =
 -- a line of a part
 pub loop-line-preserved-in-Ok-push : goal.loop-line-preserved-in-Ok-push
 loop-line-preserved-in-Ok-push c =
-    let wires = c.args.net.now.wires in
+    let wires = c.args.net.now in
     let above = c.loop-line.above in
     let entries = c.loop-line.entries.items in
     let line = c.in-Some.line.now in
@@ -56,14 +56,14 @@ returns-then-len-parts-clause-few c =
 
 pub returns-then-len-parts-clause-reads : goal.returns-then-len-parts-clause-reads
 returns-then-len-parts-clause-reads c =
-    let wires = c.args.net.now.wires in
+    let wires = c.args.net.now in
     let above = c.loop-line.above in
     let entries = c.loop-line.entries.items in
     c.loop-line.invariant.same ∙ ap (read_below (certificate_reader wires) above entries) c.in_default-next_line.ensures.lines ∙ end-complete wires above entries (returns-then-len-parts-clause-complete c)
 
 pub returns-else-len-parts-clause-reads : goal.returns-else-len-parts-clause-reads
 returns-else-len-parts-clause-reads c =
-    let wires = c.args.net.now.wires in
+    let wires = c.args.net.now in
     let above = c.loop-line.above in
     let entries = c.loop-line.entries.items in
     let missing : length entries ≢ length c.parts-2.result.now = omega (arith, c.if-len-parts.false, c.len-2.ensures, c.loop-line.entries.ok) in
