@@ -2,22 +2,13 @@
 use Rattle.std.specs.Prelude.{◌≡◌, ℕ, zero, suc, ◌+◌, ◌<◌, ◌≤◌, Bool, true, false, List, length, IsTrue, Option, Some, None}
 use Rattle.std.proofs.Common.{refl, ap, ◌∙◌, arith, inl, inr}
 use Rattle.std.proofs.lemmas.Bool.{cases_eq, false≢true}
-use Rattle.fx_routines.specs.declared.operation.ArithOp.{ArithOp}
-use Rattle.fx_routines.specs.declared.operation.ArithOp.TheVariants.{Mod}
-use Rattle.fx_routines.specs.declared.operation.Variant.{Variant}
-use Rattle.fx_routines.specs.declared.table.Routine.TheVariants as routine
-use Rattle.net_model.specs.declared.wires.WireNo.{WireNo}
-use Rattle.net_model.specs.Built.{is_built}
-use Rattle.net_model.specs.declared.wires.Block.TheVariants.{Arith, Scaled}
 use Rattle.net_model.specs.declared.wires.Item.{Item}
 use Rattle.net_model.specs.declared.wires.Item.TheVariants.{Input, Const, Block as OfBlock}
 use Rattle.net_model.specs.Wires.{NetData, wire_at, parts_of}
 use Rattle.net_model.specs.Validity.{IsValid}
-use Rattle.net_model.specs.Signatures.{signature_of}
-use Rattle.net_model.specs.BlockForms.{form_of}
 use Rattle.net_model.specs.Smooth.{is_smooth, IsSmooth}
-use Rattle.net_model.proofs.ValidityFacts.{arith-valid}
-use Rattle.mfx_arith.specs.Operations.{is_smooth_operation}
+use Rattle.net_model.proofs.ValidityFacts.{block-valid}
+use Rattle.net_model.proofs.FamilyFacts.{smooth_if_built}
 use Rattle.part_rules.specs.declared.bounds.Bounds.{Bounds}
 use Rattle.cert_rules.specs.Acceptance.{Accepts, is_allowed_at, is_inductive_at, first_failing, or_later, first_rejected}
 use Rattle.cert_rules.specs.Theorem.{AcceptsExactly, AllAreSmooth}
@@ -86,22 +77,10 @@ accepts_exactly net entries smooth complete = (accepts_from_none_rejected net en
 
 -- ---- smoothness
 
--- each built operation has a rule
-pub ruled_if_built : (op : ArithOp) → is_built (routine.Arith op) ≡ true → is_smooth_operation op ≡ true
-ruled_if_built Mod h = absurd (false≢true h)
-ruled_if_built other h = refl
-
-smooth_with_rule : (op : ArithOp) (v : Variant) (x y z : WireNo) (sh : ℕ) → is_smooth_operation op ≡ true → IsTrue (is_smooth (OfBlock (Arith op v x y z sh)))
-unfolding form_of signature_of
-smooth_with_rule Mod v x y z sh h = absurd (false≢true h)
-smooth_with_rule other v x y z sh h = refl
-
 smooth_item : (net : NetData) (i : ℕ) (item : Item) → IsValid net → i < length net.wires → (wire_at net.wires i).item ≡ item → IsTrue (is_smooth item)
-unfolding form_of signature_of
 smooth_item net i (Input lo hi) valid h e = refl
 smooth_item net i (Const value) valid h e = refl
-smooth_item net i (OfBlock (Arith op v x y z sh)) valid h e = smooth_with_rule op v x y z sh (ruled_if_built op (arith-valid net i op v x y z sh valid h e).built)
-smooth_item net i (OfBlock (Scaled op v x y)) valid h e = refl
+smooth_item net i (OfBlock b) valid h e = smooth_if_built b (block-valid net i b valid h e).built
 
 pub all_are_smooth : AllAreSmooth
 all_are_smooth net valid i h = smooth_item net i (wire_at net.wires i).item valid h refl

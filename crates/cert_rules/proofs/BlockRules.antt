@@ -24,11 +24,11 @@ use Rattle.net_model.specs.declared.wires.Item.TheVariants.{Block as OfBlock}
 use Rattle.net_model.specs.declared.wires.Role.TheVariants.{Value}
 use Rattle.net_model.specs.declared.wires.Part.{Part}
 use Rattle.net_model.specs.Wires.{NetData, wire_at, argument_of, kind_least, kind_greatest, point_of}
-use Rattle.net_model.specs.Signatures.{signature_of}
+use Rattle.net_model.specs.Families.{signature_of}
 use Rattle.net_model.specs.BlockForms.{form_of}
 use Rattle.net_model.specs.Validity.{IsValid}
 use Rattle.net_model.proofs.ValidityFacts.{arith-valid, number_kind}
-use Rattle.net_model.proofs.BuiltFacts.{shift_from_test}
+use Rattle.net_model.proofs.FamilyFacts.{ruled_if_built, shift_from_test}
 use Rattle.net_meaning.specs.Cells.{Cell, values_read as read_values}
 use Rattle.net_meaning.specs.Blocks.{formula, state_formula, quotient_of, mode_of, points_of, machine, machine_cell, machine_state_of, exact, exact_cell, state_least, state_greatest}
 use Rattle.net_meaning.specs.Runs.{equation_of}
@@ -45,7 +45,6 @@ use Rattle.mfx_rules.proofs.KeptRules.{operations_keep_rules, forms_keep_rules}
 use Rattle.cert_rules.specs.Rules.{argument_part, block_rule, least_of_part}
 use Rattle.cert_rules.specs.declared.lookups.Given.{Given}
 use Rattle.cert_rules.specs.GivenBounds.{AreGiven, reading_at, value_part}
-use Rattle.cert_rules.proofs.AcceptanceLaws.{ruled_if_built}
 
 -- ---- what is read
 

@@ -10,7 +10,8 @@ use Rattle.net_model.specs.declared.wires.Role.TheVariants.{Value}
 use Rattle.net_model.specs.declared.wires.Part.{Part}
 use Rattle.net_model.specs.Wires.{NetData, wire_at, argument_of}
 use Rattle.net_model.specs.declared.wires.WireNo.{WireNo}
-use Rattle.net_model.specs.BlockForms.{first_of, form_of, held_by, signature_in}
+use Rattle.net_model.specs.Families.{first_of, held_by}
+use Rattle.net_model.specs.BlockForms.{form_of, signature_in}
 use Rattle.net_model.specs.Validity.{IsValid}
 use Rattle.std.proofs.lemmas.List.{length-map}
 use Rattle.net_model.proofs.ValidityFacts.{argument_of-valid}

@@ -21,7 +21,7 @@ use Rattle.net_model.specs.declared.wires.Block.TheVariants.{Arith}
 use Rattle.net_model.specs.declared.wires.Item.TheVariants.{Block as OfBlock}
 use Rattle.net_model.specs.Wires.{NetData, wire_at, argument_of, kind_least, kind_greatest}
 use Rattle.net_model.specs.Validity.{IsValid}
-use Rattle.net_model.proofs.BuiltFacts.{shift_from_test}
+use Rattle.net_model.proofs.FamilyFacts.{shift_from_test}
 use Rattle.net_model.proofs.ValidityFacts.{arith-valid, number_kind}
 use Rattle.net_meaning.specs.Cells.{cell_at}
 use Rattle.net_meaning.specs.Blocks.{machine, machine_cell, formula, state_formula, quotient_of as block_quotient}

@@ -12,7 +12,7 @@ use Rattle.net_model.specs.declared.wires.Block.TheVariants.{Arith, Scaled}
 use Rattle.net_model.specs.declared.wires.Item.{Item}
 use Rattle.net_model.specs.declared.wires.Item.TheVariants.{Input, Const, Block as OfBlock}
 use Rattle.net_model.specs.Wires.{NetData, wire_at, input_place}
-use Rattle.net_model.specs.Built.{most_shift}
+use Rattle.net_model.specs.Families.{most_shift}
 use Rattle.net_model.specs.Validity.{IsValid}
 use Rattle.net_meaning.specs.Blocks.{points_of}
 use Rattle.net_eval.specs.declared.states.State.{State}

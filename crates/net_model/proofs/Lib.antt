@@ -2,10 +2,9 @@ mod DraftLemmas
 pub mod PartPlaces
 mod NumberingLemmas
 mod NameLemmas
-pub mod BuiltFacts
+pub mod FamilyFacts
 pub mod ValidityFacts
 pub mod TestedDrafts
 pub mod HeldKinds
 pub mod SideBySide
 pub mod FormTypes
-pub mod FormInverses

@@ -24,10 +24,9 @@ use Rattle.net_model.specs.declared.wires.Item.TheVariants.{Input, Const, Block 
 use Rattle.net_model.specs.declared.wires.Wire.{Wire}
 use Rattle.net_model.specs.Wires.{NetData, wire_at, no_wire, kind_least, kind_greatest, point_of, argument_of, is_input}
 use Rattle.net_model.specs.declared.signatures.Sort.TheVariants.{Number}
-use Rattle.net_model.specs.Built.{is_built}
-use Rattle.net_model.specs.Signatures.{signature_of}
-use Rattle.net_model.specs.BlockForms.{form_of, held_by, first_of, signature_in, repeats_first, adds_no_number}
-use Rattle.net_model.proofs.BuiltFacts.{is_shift, shift_of_ranges, reads_some}
+use Rattle.net_model.specs.Families.{is_built, signature_of, held_by, first_of}
+use Rattle.net_model.specs.BlockForms.{form_of, signature_in, repeats_first, adds_no_number}
+use Rattle.net_model.proofs.FamilyFacts.{is_shift, shift_of_ranges, reads_some}
 use Rattle.net_model.proofs.SideBySide.{same_lengths}
 use Rattle.mfx_scaled.specs.Operations.{argument_types as scaled_types}
 use Rattle.net_model.specs.Validity.{is_good_kind, kind_holds, is_number_of, is_of_sort, takes_form, wires_earlier, wires_agree, form_agrees, numbers_fit, is_built_item, item_reads_earlier, item_agrees, item_in_range, is_good_wire, are_good_from, are_distinct, are_distinct_outs, is_valid, IsValid}

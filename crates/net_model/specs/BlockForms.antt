@@ -1,18 +1,13 @@
--- Blocks and their forms: what a block is given, and the block of what is given, one equation a family each way.
-use Rattle.std.specs.Prelude.{ℕ, Bool, true, false, ◌&&◌, ◌==◌, List, [], ◌∷◌, take, drop, length, get_or, ℤ, pos, unsigned_abs, int_le}
+-- The form of a block: what it is given, as many wires and numbers as its routine has.
+use Rattle.std.specs.Prelude.{ℕ, Bool, true, false, ◌&&◌, ◌==◌, List, [], ◌∷◌, take, drop, length, ℤ, pos, int_le}
 use Rattle.std.specs.List.{list_all}
 use Rattle.std.specs.Ordering.{int_eq}
-use Rattle.fx_routines.specs.declared.operation.ArithOp.TheVariants.{Mod}
-use Rattle.fx_routines.specs.declared.operation.Types.{Types}
-use Rattle.fx_routines.specs.declared.table.Routine.{Routine}
-use Rattle.fx_routines.specs.declared.table.Routine.TheVariants.{Arith as NamedArith, Scaled as NamedScaled}
 use Rattle.net_model.specs.declared.wires.WireNo.{WireNo}
 use Rattle.net_model.specs.declared.wires.Block.{Block}
-use Rattle.net_model.specs.declared.wires.Block.TheVariants.{Arith, Scaled}
 use Rattle.net_model.specs.declared.signatures.Range.{Range}
 use Rattle.net_model.specs.declared.signatures.Signature.{Signature}
 use Rattle.net_model.specs.declared.block_forms.Form.{Form}
-use Rattle.net_model.specs.Signatures.{signature_of}
+use Rattle.net_model.specs.Families.{first_of, held_by, signature_of}
 
 -- ---- lists side by side
 
@@ -32,12 +27,6 @@ in_ranges = both in_range
 
 -- ---- forms
 
--- all that a block holds: also the wires and numbers that its routine doesn't have
-abbrev pub held_by : Block → Form
-held_by (Arith op v x y z sh) =
-    record { routine = NamedArith op; types = v; wires = x ∷ y ∷ z ∷ []; numbers = pos sh ∷ [] }
-held_by (Scaled op v x y) = record { routine = NamedScaled op; types = v; wires = x ∷ y ∷ []; numbers = [] }
-
 -- the signature of a form's routine at its types
 abbrev pub signature_in : Form → Signature
 signature_in form = signature_of form.routine form.types
@@ -54,10 +43,6 @@ trimmed form = record {
 -- the form of a block
 unfoldable pub form_of : Block → Form
 form_of b = trimmed (held_by b)
-
--- the first wire, and wire 0 where there is none
-abbrev pub first_of : List WireNo → WireNo
-first_of wires = get_or wires 0 (record { 0 = 0 })
 
 -- ---- what a block holds beyond that: its places are spare
 
@@ -76,23 +61,3 @@ repeats_first b = list_all (λ w. w.0 == (first_of (form_of b).wires).0) (spare_
 -- each spare number is 0
 abbrev pub adds_no_number : Block → Bool
 adds_no_number b = list_all (λ n. int_eq n (pos 0)) (spare_numbers b)
-
--- ---- and back
-
--- wire number p, from 0, and the first where there is none
-abbrev pub wire_or_first : List WireNo → ℕ → WireNo
-wire_or_first wires p = get_or wires p (first_of wires)
-
--- number p, from 0, and 0 where there is none
-abbrev pub number_or_zero : List ℤ → ℕ → ℤ
-number_or_zero numbers p = get_or numbers p (pos 0)
-
--- the block of a form; that of a routine that isn't built is the remainder, which isn't built either
-unfoldable pub block_of : Form → Block
-block_of form = by form.routine form.types form.wires form.numbers where
-  by : Routine → Types → List WireNo → List ℤ → Block
-  by (NamedArith op) v wires numbers =
-      let wire : ℕ → WireNo = wire_or_first wires in
-      Arith op v (wire 0) (wire 1) (wire 2) (unsigned_abs (number_or_zero numbers 0))
-  by (NamedScaled op) v wires numbers = Scaled op v (wire_or_first wires 0) (wire_or_first wires 1)
-  by other v wires numbers = Arith Mod v (first_of wires) (first_of wires) (first_of wires) 0

@@ -1,6 +1,5 @@
 pub mod NameMap
-pub mod Built
-pub mod Signatures
+pub mod Families
 pub mod BlockForms
 pub mod Wires
 pub mod Validity

@@ -15,7 +15,7 @@ use Rattle.net_model.specs.declared.wires.WireNo.{WireNo}
 use Rattle.net_model.specs.declared.signatures.Sort.{Sort}
 use Rattle.net_model.specs.declared.signatures.Sort.TheVariants.{Number, Truth}
 use Rattle.net_model.specs.declared.block_forms.Form.{Form}
-use Rattle.net_model.specs.Built.{is_built}
+use Rattle.net_model.specs.Families.{is_built}
 use Rattle.net_model.specs.BlockForms.{both, in_ranges, form_of, signature_in, repeats_first, adds_no_number}
 use Rattle.net_model.specs.Wires.{NetData, wire_at, kind_least, kind_greatest, is_input}
 

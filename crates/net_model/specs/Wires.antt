@@ -13,7 +13,7 @@ use Rattle.net_model.specs.declared.wires.Role.{Role}
 use Rattle.net_model.specs.declared.wires.Role.TheVariants.{Value}
 use Rattle.net_model.specs.declared.wires.Part.{Part}
 use Rattle.net_model.specs.declared.wires.Wire.{Wire}
-use Rattle.net_model.specs.BlockForms.{held_by, wire_or_first}
+use Rattle.net_model.specs.Families.{held_by, wire_or_first}
 
 -- a network: its wires in order, and its output wires in the order of printing
 pub record NetData : Type 0 where

@@ -3,9 +3,9 @@
 #![tactic(auto)]
 
 mod block_forms;
-mod built;
 mod conditions;
 mod draft_checks;
+mod families;
 mod laws;
 mod naming;
 mod network;
@@ -15,13 +15,13 @@ mod signatures;
 mod smoothness;
 mod wires;
 
-pub use block_forms::{Form, block_of, form_of};
-pub use built::is_built;
+pub use block_forms::{Form, form_of};
 pub use conditions::{form_agrees, in_range, kind_holds};
 pub use draft_checks::{MOST_WIRES, has_ends, is_range};
+pub use families::{block_of, is_built, signature_of};
 pub use laws::law_of_drafts;
 pub use naming::{Name, NameFault};
 pub use network::{Draft, NetKind, NetRefusal, Network};
 pub use rooms::Few;
-pub use signatures::{Range, Signature, Sort, signature_of};
+pub use signatures::{Range, Signature, Sort};
 pub use wires::{Block, Item, Kind, Part, PartNo, Role, Wire, WireNo};

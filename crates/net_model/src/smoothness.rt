@@ -3,7 +3,7 @@ ghost use Rattle.std.specs.Prelude.{◌≡◌, ◌<◌, ◌^◌, IfNone, IfSome,
 ghost use Rattle.net_model.specs.Smooth.{IsFirstRough, IsSmooth, is_smooth, is_smooth_block};
 
 use crate::block_forms::form_of;
-use crate::signatures::signature_of;
+use crate::families::signature_of;
 use crate::wires::{Block, Item, Wire, WireNo};
 
 /// The first wire whose block isn't smooth, if there is one.

@@ -29,12 +29,11 @@ use Rattle.net_text.specs.declared.keyword.Keyword.TheVariants.{InLine, ConstLin
 use Rattle.net_text.specs.declared.line_forms.Content.{Content}
 use Rattle.net_text.specs.declared.line_forms.Given.{Given}
 use Rattle.net_model.specs.Wires.{NetData, wire_at, place_of}
-use Rattle.net_model.specs.Built.{is_built}
-use Rattle.net_model.specs.Signatures.{signature_of}
-use Rattle.net_model.specs.BlockForms.{in_range as is_in_range, in_ranges, signature_in, form_of, block_of, repeats_first, adds_no_number}
+use Rattle.net_model.specs.Families.{is_built, signature_of, block_of}
+use Rattle.net_model.specs.BlockForms.{in_range as is_in_range, in_ranges, signature_in, form_of, repeats_first, adds_no_number}
 use Rattle.net_model.specs.Validity.{is_among, is_good_kind, kind_holds, is_of_sort, takes_form, wires_earlier, wires_agree, form_agrees, numbers_fit, is_built_item, item_reads_earlier, item_agrees, item_in_range}
 use Rattle.net_model.proofs.SideBySide.{same_lengths}
-use Rattle.net_model.proofs.FormInverses.{IsFull, block_of_full}
+use Rattle.net_model.proofs.FamilyFacts.{IsFull, block_of_full}
 use Rattle.net_text.specs.TypeWords.{ty_of, ty_len, one_digit, two_digits, point_of_word, number_kind_of, kind_of}
 use Rattle.net_text.specs.RoutineWords.{routine_at}
 use Rattle.net_text.specs.Forms.{keyword_of, is_wire, are_known, axis_passes, is_type, is_narrow, wire_above, wire_named, wires_named, are_numbers, number_in, numbers_in, fresh, has_room, number_at, input_of, const_of, kind_at, agreed, in_line, const_line, given_line, wire_line, unbuilt_line, line_of, is_known, is_output, out_line, defining_line}

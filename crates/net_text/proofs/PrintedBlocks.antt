@@ -15,12 +15,12 @@ use Rattle.net_model.specs.declared.wires.Item.TheVariants.{Block as OfBlock}
 use Rattle.net_model.specs.declared.signatures.Sort.{Sort}
 use Rattle.net_model.specs.declared.signatures.Range.{Range}
 use Rattle.net_model.specs.declared.block_forms.Form.{Form}
-use Rattle.net_model.specs.Built.{is_built}
-use Rattle.net_model.specs.BlockForms.{in_range, in_ranges, signature_in, block_of}
+use Rattle.net_model.specs.Families.{is_built, block_of}
+use Rattle.net_model.specs.BlockForms.{in_range, in_ranges, signature_in}
 use Rattle.net_model.specs.Wires.{NetData, wire_at}
 use Rattle.net_model.specs.Validity.{is_good_kind, is_of_sort, takes_form, wires_earlier, wires_agree, numbers_fit, are_distinct}
 use Rattle.net_model.proofs.SideBySide.{same_lengths}
-use Rattle.net_model.proofs.BuiltFacts.{is_short, ranges_are_short, reads_some}
+use Rattle.net_model.proofs.FamilyFacts.{is_short, ranges_are_short, reads_some}
 use Rattle.net_text.specs.Forms.{is_known, fresh, are_known, wire_named, wires_named, are_numbers, number_in, numbers_in, agreed, given_line, wire_line}
 use Rattle.net_text.specs.Printing.{kind_word, argument_words, number_words, form_words}
 use Rattle.net_text.proofs.PrintedKinds.{kind_of-kind_word, is_position-kind_word}

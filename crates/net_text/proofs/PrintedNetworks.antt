@@ -16,7 +16,7 @@ use Rattle.net_model.specs.declared.block_forms.Form.{Form}
 use Rattle.net_model.specs.BlockForms.{form_of, signature_in, in_range, in_ranges}
 use Rattle.net_model.specs.Wires.{NetData, no_wire, wire_at}
 use Rattle.net_model.specs.Validity.{is_good_kind, kind_holds, wires_earlier, is_built_item, item_reads_earlier, item_agrees, item_in_range, is_good_wire, IsValid}
-use Rattle.net_model.proofs.BuiltFacts.{is_short, ranges_are_short}
+use Rattle.net_model.proofs.FamilyFacts.{is_short, ranges_are_short}
 use Rattle.net_model.proofs.ValidityFacts.{conditions, length-valid, good_wire-valid}
 use Rattle.net_text.specs.Text.{network_of}
 use Rattle.net_text.specs.Printing.{argument_words, number_words, form_words, wire_words, out_words, text_of}

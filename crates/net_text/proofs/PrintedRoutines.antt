@@ -12,7 +12,7 @@ use Rattle.fx_routines.specs.Rows.{Row, rows, front_of, parts_of}
 use Rattle.fx_routines.specs.Names.{type_word, part_word, words, takes, routine_name, IsNameOf}
 use Rattle.fx_routines.specs.Reading.{named}
 use Rattle.fx_routines.proofs.NameLaws.{named_gives, taken_names}
-use Rattle.net_model.specs.Built.{is_built}
+use Rattle.net_model.specs.Families.{is_built}
 use Rattle.net_text.specs.RoutineWords.{routine_at}
 use Rattle.net_text.proofs.PrintedKinds.{is_word-type_word}
 

@@ -13,7 +13,7 @@ use Rattle.net_model.specs.declared.wires.Item.TheVariants.{Input, Const, Block 
 use Rattle.net_model.specs.BlockForms.{form_of, signature_in, repeats_first, adds_no_number}
 use Rattle.net_model.specs.Wires.{NetData, with_wire, kind_least, kind_greatest}
 use Rattle.net_model.specs.Validity.{is_good_kind, kind_holds, takes_form, wires_agree, is_of_sort, form_agrees, numbers_fit, agrees, reads_earlier, is_built_item, item_reads_earlier, item_agrees, item_in_range, has_good_numbers, are_distinct}
-use Rattle.net_model.proofs.FormInverses.{block_back}
+use Rattle.net_model.proofs.FamilyFacts.{block_back}
 use Rattle.net_text.specs.Forms.{keyword_of, line_of, defining_line, wire_line}
 use Rattle.net_text.specs.Text.{after_definition, after_line}
 use Rattle.net_text.specs.Printing.{kind_word, wire_words}

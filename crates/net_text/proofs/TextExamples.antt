@@ -15,8 +15,8 @@ use Rattle.fx_routines.specs.declared.operation.ScaledOp.TheVariants.{Convert}
 use Rattle.net_model.specs.declared.wires.Kind.TheVariants.{Num}
 use Rattle.net_model.specs.declared.wires.Block.TheVariants.{Arith, Scaled}
 use Rattle.net_model.specs.declared.wires.Item.TheVariants.{Input, Const, Block as OfBlock}
-use Rattle.net_model.specs.Signatures.{signature_of}
-use Rattle.net_model.specs.BlockForms.{form_of, block_of}
+use Rattle.net_model.specs.Families.{signature_of, block_of}
+use Rattle.net_model.specs.BlockForms.{form_of}
 use Rattle.net_model.specs.Wires.{NetData, place_of}
 use Rattle.net_text.specs.TypeWords.{point_of_word, number_kind_of, kind_of, is_position}
 use Rattle.net_text.specs.RoutineWords.{routine_at}

@@ -26,8 +26,8 @@ use Rattle.net_text.specs.declared.keyword.Keyword.TheVariants.{InLine, ConstLin
 use Rattle.net_text.specs.declared.line_forms.Content.{Content}
 use Rattle.net_text.specs.declared.line_forms.Given.{Given}
 use Rattle.net_model.specs.Wires.{NetData, place_of}
-use Rattle.net_model.specs.Signatures.{signature_of}
-use Rattle.net_model.specs.BlockForms.{in_range as is_in_range, block_of}
+use Rattle.net_model.specs.Families.{signature_of, block_of}
+use Rattle.net_model.specs.BlockForms.{in_range as is_in_range}
 use Rattle.net_model.specs.Validity.{item_in_range, form_agrees, is_among, most_wires}
 use Rattle.net_text.specs.TypeWords.{kind_of, ty_of, axis_name, is_position}
 use Rattle.net_text.specs.RoutineWords.{routine_at}

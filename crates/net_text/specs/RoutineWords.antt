@@ -6,7 +6,7 @@ use Rattle.fx_routines.specs.declared.table.Routine.{Routine}
 use Rattle.fx_routines.specs.Reading.{named}
 use Rattle.net_model.specs.declared.network.NetKind.{NetKind}
 use Rattle.net_model.specs.declared.network.NetKind.TheVariants.{UnknownRoutine, NotBuilt}
-use Rattle.net_model.specs.Built.{is_built}
+use Rattle.net_model.specs.Families.{is_built}
 
 -- the routine of a name, and its types: no routine has the name, or it isn't built
 unfoldable pub routine_at : List ℕ → Result (Routine × Types) NetKind

@@ -1,6 +1,6 @@
 // Reads the names of routines.
 ghost use Rattle.std.specs.Prelude.{◌≡◌, IfOk, true};
-ghost use Rattle.net_model.specs.Built.{is_built};
+ghost use Rattle.net_model.specs.Families.{is_built};
 ghost use Rattle.net_text.specs.RoutineWords.{routine_at};
 
 use fx_routines::{Routine, Types, routine_named};

@@ -1,0 +1,85 @@
+-- The families, one equation each: which routines are built, what a routine takes and gives, what a block holds, and the
+-- block of what is given.
+use Rattle.std.specs.Prelude.{ℕ, Bool, true, false, List, [], ◌∷◌, map, get_or, ℤ, pos, unsigned_abs}
+use Rattle.fx_routines.specs.declared.operation.ArithOp.{ArithOp}
+use Rattle.fx_routines.specs.declared.operation.ArithOp.TheVariants.{Mod, MulShRight, DivShLeft}
+use Rattle.fx_routines.specs.declared.operation.Types.{Types}
+use Rattle.fx_routines.specs.declared.table.Routine.{Routine}
+use Rattle.fx_routines.specs.declared.table.Routine.TheVariants.{Arith as NamedArith, Scaled as NamedScaled}
+use Rattle.mfx_arith.specs.Operations.{argument_types, is_smooth_operation}
+use Rattle.mfx_scaled.specs.Operations.{argument_types as scaled_types}
+use Rattle.net_model.specs.declared.wires.WireNo.{WireNo}
+use Rattle.net_model.specs.declared.wires.Block.{Block}
+use Rattle.net_model.specs.declared.wires.Block.TheVariants.{Arith, Scaled}
+use Rattle.net_model.specs.declared.signatures.Sort.TheVariants.{Number}
+use Rattle.net_model.specs.declared.signatures.Range.{Range}
+use Rattle.net_model.specs.declared.signatures.Signature.{Signature}
+use Rattle.net_model.specs.declared.block_forms.Form.{Form}
+
+-- ---- what is built
+
+-- the routine is built as a block: all of arithmetic are but the remainder, and all forms with binary points
+abbrev pub is_built : Routine → Bool
+is_built (NamedArith Mod) = false
+is_built (NamedArith other) = true
+is_built (NamedScaled op) = true
+is_built other = false
+
+-- the greatest count of places that an operation shifts by
+abbrev pub most_shift : ℕ
+most_shift = 15
+
+-- ---- what a routine takes and gives
+
+-- the numbers from low to high
+abbrev pub between : ℤ → ℕ → Range
+between low high = record { low = low; high = high }
+
+-- an operation that shifts is given a count of places
+abbrev pub arith_ranges : ArithOp → List Range
+arith_ranges MulShRight = between (pos 0) most_shift ∷ []
+arith_ranges DivShLeft = between (pos 0) most_shift ∷ []
+arith_ranges other = []
+
+-- the signature of a routine at its types; one that isn't built has an empty one
+unfoldable pub signature_of : Routine → Types → Signature
+signature_of (NamedArith op) v = record {
+  sorts = map Number (argument_types op v);
+  ranges = arith_ranges op;
+  gives = Number v.o;
+  smooth = is_smooth_operation op;
+}
+signature_of (NamedScaled op) v = record { sorts = map Number (scaled_types op v); ranges = []; gives = Number v.o; smooth = true }
+signature_of other v = record { sorts = []; ranges = []; gives = Number v.o; smooth = false }
+
+-- ---- what a block holds
+
+-- all that a block holds: also the wires and numbers that its routine doesn't have
+abbrev pub held_by : Block → Form
+held_by (Arith op v x y z sh) =
+    record { routine = NamedArith op; types = v; wires = x ∷ y ∷ z ∷ []; numbers = pos sh ∷ [] }
+held_by (Scaled op v x y) = record { routine = NamedScaled op; types = v; wires = x ∷ y ∷ []; numbers = [] }
+
+-- ---- the block of what is given
+
+-- the first wire, and wire 0 where there is none
+abbrev pub first_of : List WireNo → WireNo
+first_of wires = get_or wires 0 (record { 0 = 0 })
+
+-- wire number p, from 0, and the first where there is none
+abbrev pub wire_or_first : List WireNo → ℕ → WireNo
+wire_or_first wires p = get_or wires p (first_of wires)
+
+-- number p, from 0, and 0 where there is none
+abbrev pub number_or_zero : List ℤ → ℕ → ℤ
+number_or_zero numbers p = get_or numbers p (pos 0)
+
+-- the block of a form; that of a routine that isn't built is the remainder, which isn't built either
+unfoldable pub block_of : Form → Block
+block_of form = by form.routine form.types form.wires form.numbers where
+  by : Routine → Types → List WireNo → List ℤ → Block
+  by (NamedArith op) v wires numbers =
+      let wire : ℕ → WireNo = wire_or_first wires in
+      Arith op v (wire 0) (wire 1) (wire 2) (unsigned_abs (number_or_zero numbers 0))
+  by (NamedScaled op) v wires numbers = Scaled op v (wire_or_first wires 0) (wire_or_first wires 1)
+  by other v wires numbers = Arith Mod v (first_of wires) (first_of wires) (first_of wires) 0

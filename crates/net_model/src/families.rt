@@ -1,0 +1,218 @@
+// The families, one arm each: which routines are built, what a routine takes and gives, what a block
+// holds, and the block of what is given.
+ghost use Rattle.std.specs.Prelude.{◌≡◌, [], ◌∷◌, map, true};
+ghost use Rattle.fx_routines.specs.Names.{takes};
+ghost use Rattle.mfx_arith.specs.Operations.{argument_types, is_smooth_operation, unsigned_of};
+ghost use Rattle.mfx_scaled.specs.Operations.{argument_types as scaled_types};
+ghost use Rattle.net_model.specs.declared.signatures.Sort.TheVariants.{Number};
+ghost use Rattle.net_model.specs.Families.{arith_ranges, block_of, first_of, held_by, is_built, number_or_zero, signature_of, wire_or_first};
+ghost use Rattle.net_model.specs.BlockForms.{in_ranges};
+
+use crate::block_forms::Form;
+use crate::rooms::Few;
+use crate::signatures::{Range, Signature, Sort};
+use crate::wires::{Block, WireNo};
+use fx_core::Ty;
+use fx_routines::{ArithOp, Routine, ScaledOp, Types, Variant};
+
+/// Whether the routine is built as a block.
+pub fn is_built(routine: Routine) -> bool
+    ensures { result ≡ is_built routine }
+{
+    match routine {
+        Routine::Arith(op) => !matches!(op, ArithOp::Mod),
+        Routine::Scaled(_) => true,
+        Routine::Bit(_) | Routine::Interpolation(_) => false,
+        Routine::Filter(_) | Routine::Control(_) | Routine::Switch(_) => false,
+    }
+}
+
+const NO_RANGE: Range = Range { low: 0, high: 0 };
+
+const PLACES: Range = Range { low: 0, high: 15 };
+
+/// The signature of a routine at its types. One that isn't built has an empty one.
+#[tactic(auto, unfolding(crate::specs::Families::signature_of))]
+pub fn signature_of(routine: Routine, types: Types) -> Signature
+    ensures { result ≡ signature_of routine types }
+{
+    match routine {
+        Routine::Arith(op) => Signature {
+            sorts: arith_sorts(op, types),
+            ranges: arith_ranges(op),
+            gives: Sort::Number(types.o),
+            smooth: op != ArithOp::Mod,
+        },
+        Routine::Scaled(op) => Signature {
+            sorts: scaled_sorts(op, types),
+            ranges: Few::of([NO_RANGE; 4], 0),
+            gives: Sort::Number(types.o),
+            smooth: true,
+        },
+        _ => Signature {
+            sorts: Few::of([Sort::Truth; 4], 0),
+            ranges: Few::of([NO_RANGE; 4], 0),
+            gives: Sort::Number(types.o),
+            smooth: false,
+        },
+    }
+}
+
+fn arith_sorts(op: ArithOp, types: Types) -> Few<Sort>
+    ensures { result ≡ map Number (argument_types op types) }
+{
+    let Types { x, y, o } = types;
+    match op {
+        ArithOp::Abs => one(x),
+        ArithOp::MulDiv => three(x, y, y),
+        ArithOp::Limit => three(o, o, o),
+        ArithOp::Min | ArithOp::Max => two(o, o),
+        ArithOp::RateLimiter => three(o, o, unsigned_of(o)),
+        ArithOp::Add
+        | ArithOp::Sub
+        | ArithOp::AbsDiff
+        | ArithOp::Mul
+        | ArithOp::Div
+        | ArithOp::Mod
+        | ArithOp::MulShRight
+        | ArithOp::DivShLeft => two(x, y),
+    }
+}
+
+// The unsigned type of a type's width.
+fn unsigned_of(ty: Ty) -> Ty
+    ensures { result ≡ unsigned_of ty }
+{
+    match ty {
+        Ty::U8 | Ty::S8 => Ty::U8,
+        Ty::U16 | Ty::S16 => Ty::U16,
+        Ty::U32 | Ty::S32 => Ty::U32,
+    }
+}
+
+// The ranges of the numbers in the lines of an operation.
+fn arith_ranges(op: ArithOp) -> Few<Range>
+    ensures { result ≡ arith_ranges op }
+{
+    match op {
+        ArithOp::MulShRight | ArithOp::DivShLeft => Few::of([PLACES; 4], 1),
+        _ => Few::of([NO_RANGE; 4], 0),
+    }
+}
+
+fn scaled_sorts(op: ScaledOp, types: Types) -> Few<Sort>
+    ensures { result ≡ map Number (scaled_types op types) }
+{
+    let Types { x, y, .. } = types;
+    match op {
+        ScaledOp::Convert => one(x),
+        _ => two(x, y),
+    }
+}
+
+fn one(x: Ty) -> Few<Sort>
+    ensures { result ≡ Number x ∷ [] }
+{
+    Few::of([Sort::Number(x); 4], 1)
+}
+
+fn two(x: Ty, y: Ty) -> Few<Sort>
+    ensures { result ≡ Number x ∷ Number y ∷ [] }
+{
+    Few::of(
+        [Sort::Number(x), Sort::Number(y), Sort::Truth, Sort::Truth],
+        2,
+    )
+}
+
+fn three(x: Ty, y: Ty, z: Ty) -> Few<Sort>
+    ensures { result ≡ Number x ∷ Number y ∷ Number z ∷ [] }
+{
+    let sorts = [
+        Sort::Number(x),
+        Sort::Number(y),
+        Sort::Number(z),
+        Sort::Truth,
+    ];
+    Few::of(sorts, 3)
+}
+
+/// All that a block holds, one arm a family: also the wires and numbers that its routine doesn't have.
+pub fn held_by(block: Block) -> Form
+    ensures { result ≡ held_by block }
+{
+    match block {
+        Block::Arith { op, v, x, y, z, sh } => Form {
+            routine: Routine::Arith(op),
+            types: v.types(),
+            wires: Few::of([x, y, z, x], 3),
+            numbers: Few::of([i64::from(sh); 4], 1),
+        },
+        Block::Scaled { op, v, x, y } => Form {
+            routine: Routine::Scaled(op),
+            types: v.types(),
+            wires: Few::of([x, y, x, x], 2),
+            numbers: Few::of([0; 4], 0),
+        },
+    }
+}
+
+/// The block of a form, one arm a family: at types that its routine takes, and with numbers in their
+/// ranges.
+#[tactic(auto, unfolding(crate::specs::Families::block_of, crate::specs::Families::signature_of), using(crate::proofs::FormTypes::one_width))]
+pub fn block_of(form: &Form) -> Block
+    requires built { is_built form.now.routine ≡ true }
+    requires taken { takes form.now.routine form.now.types ≡ true }
+    requires numbers { in_ranges (signature_of form.now.routine form.now.types).ranges form.now.numbers ≡ true }
+    ensures { result ≡ block_of form.now }
+{
+    let wires = form.wires.as_slice();
+    let numbers = form.numbers.as_slice();
+    let x = wire_or_first(wires, 0);
+    let y = wire_or_first(wires, 1);
+    match form.routine {
+        Routine::Arith(op) => Block::Arith {
+            op,
+            v: Variant::of(form.types),
+            x,
+            y,
+            z: wire_or_first(wires, 2),
+            sh: number_or_zero(numbers, 0).unsigned_abs() as u8,
+        },
+        Routine::Scaled(op) => Block::Scaled {
+            op,
+            v: Variant::of(form.types),
+            x,
+            y,
+        },
+        _ => unreachable!(),
+    }
+}
+
+fn wire_or_first(wires: &[WireNo], p: usize) -> WireNo
+    ensures { result ≡ wire_or_first wires.now p }
+{
+    match wires.get(p) {
+        Some(wire) => *wire,
+        None => first_of(wires),
+    }
+}
+
+/// The first wire, and wire 0 where there is none.
+pub fn first_of(wires: &[WireNo]) -> WireNo
+    ensures { result ≡ first_of wires.now }
+{
+    match wires.first() {
+        Some(first) => *first,
+        None => WireNo(0),
+    }
+}
+
+fn number_or_zero(numbers: &[i64], p: usize) -> i64
+    ensures { result ≡ number_or_zero numbers.now p }
+{
+    match numbers.get(p) {
+        Some(number) => *number,
+        None => 0,
+    }
+}
