@@ -45,10 +45,10 @@ unfolding reads_at
 rules_read_their_arguments net valid p h one other agree =
     let part = part_at net p in
     rule_same net part one other (depends_on_reads (part_rule net part) one other (agree_on (reads_of net p) one other (λ q l.
-        let reading = reading_at (reads_of net p) q in
-        let number = has_number net reading.part (is_orderly net part valid (numbered net p h) q l).there in
-        let read = subst (λ t. IsTrue (is_read_ever (reads_of net p) t)) (sym number.there) (read_ever (reads_of net p) q l) in
-        subst (λ t. one t ≡ other t) number.there (agree number.number number.within read))))
+    let reading = reading_at (reads_of net p) q in
+    let number = has_number net reading.part (is_orderly net part valid (numbered net p h) q l).there in
+    let read = subst (λ t. IsTrue (is_read_ever (reads_of net p) t)) (sym number.there) (read_ever (reads_of net p) q l) in
+    subst (λ t. one t ≡ other t) number.there (agree number.number number.within read))))
 
 -- ---- a rule that gives bounds
 
@@ -155,9 +155,9 @@ rules_are_sound net valid entries p h allowed rows m e keeps given bounds rules 
     let reads_allowed = allowed_reads net entries p valid h allowed in
     let fit : FitReads net reads (bounds_read reads (entry_of net entries)) = λ q l. rw (given_at reads (entry_of net entries) q l) ((allowed_entry net (reading_at reads q).part (entry_of net entries (reading_at reads q).part) (reads_allowed q l).1).between.low) in
     let within : ReadsWithin reads (entry_of net entries) m e = λ q l.
-        let reading = reading_at reads q in
-        let number = has_number net reading.part (is_orderly net part valid there q l).there in
-        let read = subst (λ t. IsTrue (is_read reads t (rows_ago reading))) (sym number.there) (read_there reads q l) in
-        subst (λ (t : Part). IsWithin (entry_of net entries t) (held_by t.role (m (rows_ago reading) t.wire.0)) (held_by t.role (e (rows_ago reading) t.wire.0))) number.there (given number.number (rows_ago reading) number.within read) in
+    let reading = reading_at reads q in
+    let number = has_number net reading.part (is_orderly net part valid there q l).there in
+    let read = subst (λ t. IsTrue (is_read reads t (rows_ago reading))) (sym number.there) (read_there reads q l) in
+    subst (λ (t : Part). IsWithin (entry_of net entries t) (held_by t.role (m (rows_ago reading) t.wire.0)) (held_by t.role (e (rows_ago reading) t.wire.0))) number.there (given number.number (rows_ago reading) number.within read) in
     let k = part_keeps net part.wire.0 part.role (entry_of net entries) rows m e bounds valid there.wire keeps fit within (rule_gift net part (entry_of net entries) bounds rules).is in
     record { machine_divides = k.machine_divides; exact_divides = k.exact_divides; within = k.within }

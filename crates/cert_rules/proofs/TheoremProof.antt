@@ -109,11 +109,11 @@ row_holds : (net : NetData) (entries : List Bounds) (rows : List (List ℤ)) (m 
 row_holds net entries rows m e valid accepts keeps is_m is_e past part is =
     by_smaller (λ n. (one : Part) → IsPart net one → rank one ≡ n → PartHolds net entries one m e)
     (λ n before one there same.
-        let number = has_number net one there in
-        let wire : (part_at net number.number).wire.0 < length net.wires = (numbered net number.number number.within).wire in
-        subst (λ t. PartHolds net entries t m e) number.there
-        (part_holds net entries rows number.number m e valid accepts number.within (keeps _ wire) (is_m _ wire) (is_e _ wire)
-          (read_held net entries number.number m e valid number.within (λ other o less. (before (rank other) (omega (arith, less, same, ap rank number.there)) other o refl).held) past)))
+    let number = has_number net one there in
+    let wire : (part_at net number.number).wire.0 < length net.wires = (numbered net number.number number.within).wire in
+    subst (λ t. PartHolds net entries t m e) number.there
+    (part_holds net entries rows number.number m e valid accepts number.within (keeps _ wire) (is_m _ wire) (is_e _ wire)
+    (read_held net entries number.number m e valid number.within (λ other o less. (before (rank other) (omega (arith, less, same, ap rank number.there)) other o refl).held) past)))
     (suc (rank part)) (rank part) (omega arith) part is refl
 
 -- ---- all rows

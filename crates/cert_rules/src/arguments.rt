@@ -40,7 +40,11 @@ fn reads_at(net: &Network, part: PartNo, other: PartNo) -> bool
     ensures { result ≡ reads_at net.now part.0 other.0 }
 {
     let part = part_numbered(net, part);
-    reads(item_at(net, part.wire), part.role, part_numbered(net, other))
+    reads(
+        item_at(net, part.wire),
+        part.role,
+        part_numbered(net, other),
+    )
 }
 
 /// Whether the rule of a part of this role, on a wire with this item, reads another part.

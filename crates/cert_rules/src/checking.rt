@@ -4,10 +4,10 @@ ghost use Rattle.std.specs.Prelude.{◌≡◌, ◌<◌, ◌&&◌, None, int_le, 
 ghost use Rattle.net_model.specs.Wires.{parts_of};
 ghost use Rattle.cert_rules.specs.Acceptance.{AreAllowed, first_failing, first_rejected, is_inductive_at, is_allowed_at};
 
-use part_rules::Bounds;
 use crate::limits::allowed;
 use crate::ruling::rule;
 use net_model::{Network, PartNo};
+use part_rules::Bounds;
 
 /// The first part that a certificate with an entry for each part fails: the first whose entry isn't allowed;
 /// where all are allowed, the first whose entry is narrower than its rule gives. None where it is accepted.

@@ -9,8 +9,8 @@ ghost use Rattle.cert_rules.specs.Certificates.{entry_of};
 ghost use Rattle.cert_rules.specs.GivenBounds.{AreAllowedReads, AreGiven, AreSmall, entry_if, value_part};
 ghost use Rattle.cert_rules.specs.Rules.{block_rule};
 
-use part_rules::Bounds;
 use net_model::{Block, Item, Kind, Network, Part, PartNo, Role, WireNo, form_of};
+use part_rules::Bounds;
 
 /// What stands for bounds where there are none.
 const NO_BOUNDS: Bounds = Bounds {

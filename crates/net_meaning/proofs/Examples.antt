@@ -18,10 +18,10 @@ use Rattle.net_meaning.specs.Runs.{equation_of, row_of, table}
 net : NetData
 net = record {
   wires =
-    record { name = codes "a"; kind = Num S16 0; item = Input (negsuc 999) (pos 32767) } ∷
-    record { name = codes "b"; kind = Num S16 4; item = Input (negsuc 159) (pos 160) } ∷
-    record { name = codes "c"; kind = Num S16 0; item = OfBlock (Scaled Convert (record { x = S16; y = S16; o = S16 }) (record { 0 = 1 }) (record { 0 = 1 })) } ∷
-    record { name = codes "s"; kind = Num S16 0; item = OfBlock (Arith Add (record { x = S16; y = S16; o = S16 }) (record { 0 = 0 }) (record { 0 = 2 }) (record { 0 = 0 }) 0) } ∷ [];
+      record { name = codes "a"; kind = Num S16 0; item = Input (negsuc 999) (pos 32767) } ∷
+      record { name = codes "b"; kind = Num S16 4; item = Input (negsuc 159) (pos 160) } ∷
+      record { name = codes "c"; kind = Num S16 0; item = OfBlock (Scaled Convert (record { x = S16; y = S16; o = S16 }) (record { 0 = 1 }) (record { 0 = 1 })) } ∷
+      record { name = codes "s"; kind = Num S16 0; item = OfBlock (Arith Add (record { x = S16; y = S16; o = S16 }) (record { 0 = 0 }) (record { 0 = 2 }) (record { 0 = 0 }) 0) } ∷ [];
   outs = record { 0 = 3 } ∷ [];
 }
 

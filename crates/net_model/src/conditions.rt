@@ -7,9 +7,8 @@ ghost use Rattle.net_model.specs.Drafts.{data_of};
 ghost use Rattle.net_model.specs.Validity.{agrees, form_agrees, has_good_numbers, is_built_block, is_good_kind, is_of_sort, kind_holds, numbers_fit, reads_earlier, wires_agree, wires_earlier};
 
 use crate::block_forms::{Form, adds_no_number, form_of, repeats_first};
-use crate::families::is_built;
+use crate::families::{is_built, signature_of};
 use crate::network::Draft;
-use crate::families::signature_of;
 use crate::signatures::{Range, Sort};
 use crate::wires::{Block, Kind, Wire, WireNo};
 use fx_core::Ty;
