@@ -1,16 +1,19 @@
 -- The families, one equation each: which routines are built, what a routine takes and gives, what a block holds, and the
 -- block of what is given.
-use Rattle.std.specs.Prelude.{ℕ, Bool, true, false, List, [], ◌∷◌, map, get_or, ℤ, pos, unsigned_abs}
+use Rattle.std.specs.Prelude.{ℕ, Bool, true, false, List, [], ◌∷◌, map, get_or, ℤ, pos, negsuc, unsigned_abs, if◌then◌else◌}
 use Rattle.fx_routines.specs.declared.operation.ArithOp.{ArithOp}
 use Rattle.fx_routines.specs.declared.operation.ArithOp.TheVariants.{Mod, MulShRight, DivShLeft}
 use Rattle.fx_routines.specs.declared.operation.Types.{Types}
+use Rattle.fx_routines.specs.declared.control.FilterOp.{FilterOp}
+use Rattle.fx_routines.specs.declared.control.FilterOp.TheVariants as filter
+use Rattle.fx_routines.specs.Variants.{types}
 use Rattle.fx_routines.specs.declared.table.Routine.{Routine}
-use Rattle.fx_routines.specs.declared.table.Routine.TheVariants.{Arith as NamedArith, Scaled as NamedScaled}
+use Rattle.fx_routines.specs.declared.table.Routine.TheVariants.{Arith as NamedArith, Scaled as NamedScaled, Filter as NamedFilter}
 use Rattle.mfx_arith.specs.Operations.{argument_types, is_smooth_operation}
 use Rattle.mfx_scaled.specs.Operations.{argument_types as scaled_types}
 use Rattle.net_model.specs.declared.wires.WireNo.{WireNo}
 use Rattle.net_model.specs.declared.wires.Block.{Block}
-use Rattle.net_model.specs.declared.wires.Block.TheVariants.{Arith, Scaled}
+use Rattle.net_model.specs.declared.wires.Block.TheVariants.{Arith, Scaled, Gain, Average, Pt1, Dt1}
 use Rattle.net_model.specs.declared.signatures.Sort.TheVariants.{Number}
 use Rattle.net_model.specs.declared.signatures.Range.{Range}
 use Rattle.net_model.specs.declared.signatures.Signature.{Signature}
@@ -18,11 +21,12 @@ use Rattle.net_model.specs.declared.block_forms.Form.{Form}
 
 -- ---- what is built
 
--- the routine is built as a block: all of arithmetic are but the remainder, and all forms with binary points
+-- the routine is built as a block: all of arithmetic are but the remainder, all forms with binary points, and all filters
 abbrev pub is_built : Routine → Bool
 is_built (NamedArith Mod) = false
 is_built (NamedArith other) = true
 is_built (NamedScaled op) = true
+is_built (NamedFilter op) = true
 is_built other = false
 
 -- the greatest count of places that an operation shifts by
@@ -41,6 +45,24 @@ arith_ranges MulShRight = between (pos 0) most_shift ∷ []
 arith_ranges DivShLeft = between (pos 0) most_shift ∷ []
 arith_ranges other = []
 
+-- a gain, with 16 fractional bits
+abbrev pub gains : Range
+gains = between (negsuc 2147483647) 2147483647
+
+-- the weight of an old state, in 1/65536
+abbrev pub weights : Range
+weights = between (pos 0) 65536
+
+-- over how many rows an average goes
+abbrev pub counts_of_rows : Range
+counts_of_rows = between (pos 1) 1024
+
+-- the numbers of a filter
+abbrev pub filter_ranges : FilterOp → List Range
+filter_ranges filter.Gain = gains ∷ []
+filter_ranges filter.Average = counts_of_rows ∷ []
+filter_ranges other = weights ∷ gains ∷ []
+
 -- the signature of a routine at its types; one that isn't built has an empty one
 unfoldable pub signature_of : Routine → Types → Signature
 signature_of (NamedArith op) v = record {
@@ -50,6 +72,7 @@ signature_of (NamedArith op) v = record {
   smooth = is_smooth_operation op;
 }
 signature_of (NamedScaled op) v = record { sorts = map Number (scaled_types op v); ranges = []; gives = Number v.o; smooth = true }
+signature_of (NamedFilter op) v = record { sorts = Number v.x ∷ []; ranges = filter_ranges op; gives = Number v.o; smooth = true }
 signature_of other v = record { sorts = []; ranges = []; gives = Number v.o; smooth = false }
 
 -- ---- what a block holds
@@ -59,6 +82,18 @@ abbrev pub held_by : Block → Form
 held_by (Arith op v x y z sh) =
     record { routine = NamedArith op; types = v; wires = x ∷ y ∷ z ∷ []; numbers = pos sh ∷ [] }
 held_by (Scaled op v x y) = record { routine = NamedScaled op; types = v; wires = x ∷ y ∷ []; numbers = [] }
+held_by (Gain xty ty x k) =
+    record { routine = NamedFilter filter.Gain; types = types xty xty ty; wires = x ∷ []; numbers = k ∷ [] }
+held_by (Average xty ty x n) =
+    record { routine = NamedFilter filter.Average; types = types xty xty ty; wires = x ∷ []; numbers = pos n ∷ [] }
+held_by (Pt1 xty ty x teq k) =
+    record { routine = NamedFilter filter.Pt1; types = types xty xty ty; wires = x ∷ []; numbers = pos teq ∷ k ∷ [] }
+held_by (Dt1 second xty ty x teq k) = record {
+  routine = NamedFilter (if second then filter.Dt1Typ2 else filter.Dt1Typ1);
+  types = types xty xty ty;
+  wires = x ∷ [];
+  numbers = pos teq ∷ k ∷ [];
+}
 
 -- ---- the block of what is given
 
@@ -82,4 +117,13 @@ block_of form = by form.routine form.types form.wires form.numbers where
       let wire : ℕ → WireNo = wire_or_first wires in
       Arith op v (wire 0) (wire 1) (wire 2) (unsigned_abs (number_or_zero numbers 0))
   by (NamedScaled op) v wires numbers = Scaled op v (wire_or_first wires 0) (wire_or_first wires 1)
+  by (NamedFilter filter.Gain) v wires numbers = Gain v.x v.o (first_of wires) (number_or_zero numbers 0)
+  by (NamedFilter filter.Average) v wires numbers =
+      Average v.x v.o (first_of wires) (unsigned_abs (number_or_zero numbers 0))
+  by (NamedFilter filter.Pt1) v wires numbers =
+      Pt1 v.x v.o (first_of wires) (unsigned_abs (number_or_zero numbers 0)) (number_or_zero numbers 1)
+  by (NamedFilter filter.Dt1Typ1) v wires numbers =
+      Dt1 false v.x v.o (first_of wires) (unsigned_abs (number_or_zero numbers 0)) (number_or_zero numbers 1)
+  by (NamedFilter filter.Dt1Typ2) v wires numbers =
+      Dt1 true v.x v.o (first_of wires) (unsigned_abs (number_or_zero numbers 0)) (number_or_zero numbers 1)
   by other v wires numbers = Arith Mod v (first_of wires) (first_of wires) (first_of wires) 0

@@ -7,10 +7,11 @@ use Rattle.net_model.specs.declared.wires.PartNo.{PartNo}
 use Rattle.net_model.specs.declared.wires.Kind.{Kind}
 use Rattle.net_model.specs.declared.wires.Kind.TheVariants.{Num, Truth}
 use Rattle.net_model.specs.declared.wires.Block.{Block}
+use Rattle.net_model.specs.declared.wires.Block.TheVariants.{Average, Pt1, Dt1}
 use Rattle.net_model.specs.declared.wires.Item.{Item}
-use Rattle.net_model.specs.declared.wires.Item.TheVariants.{Input, Const, Block as OfBlock}
+use Rattle.net_model.specs.declared.wires.Item.TheVariants.{Input, Const, Delay, Block as OfBlock}
 use Rattle.net_model.specs.declared.wires.Role.{Role}
-use Rattle.net_model.specs.declared.wires.Role.TheVariants.{Value}
+use Rattle.net_model.specs.declared.wires.Role.TheVariants.{Y, X1, X2, W, Value}
 use Rattle.net_model.specs.declared.wires.Part.{Part}
 use Rattle.net_model.specs.declared.wires.Wire.{Wire}
 use Rattle.net_model.specs.Families.{held_by, wire_or_first}
@@ -63,6 +64,7 @@ argument_of b p = (wire_or_first (held_by b).wires p).0
 abbrev pub is_input : Item → Bool
 is_input (Input lo hi) = true
 is_input (Const value) = false
+is_input (Delay init source) = false
 is_input (OfBlock b) = false
 
 -- the place of input wire i among the inputs: how many of the wires before it are inputs
@@ -73,6 +75,7 @@ input_place wires i = count_by (λ w. is_input w.item) (take i wires)
 abbrev pub with_input : Item → ℕ → List WireNo → List WireNo
 with_input (Input lo hi) i rest = record { 0 = i } ∷ rest
 with_input (Const value) i rest = rest
+with_input (Delay init source) i rest = rest
 with_input (OfBlock b) i rest = rest
 
 -- the inputs among wires that are numbered from i
@@ -84,11 +87,20 @@ inputs_from i (w ∷ wires) = with_input w.item i (inputs_from (i + 1) wires)
 abbrev pub inputs_of : List Wire → List WireNo
 inputs_of wires = inputs_from 0 wires
 
--- the parts of a wire, in order: its states, then its value
+-- the parts of a wire with a block, in order: its states, then its value
+abbrev pub block_roles : Block → List Role
+block_roles (Pt1 xty ty x teq k) = Y ∷ X1 ∷ Value ∷ []
+block_roles (Dt1 true xty ty x teq k) = Y ∷ X1 ∷ Value ∷ []
+block_roles (Dt1 false xty ty x teq k) = Y ∷ X1 ∷ X2 ∷ Value ∷ []
+block_roles (Average xty ty x n) = W ∷ Value ∷ []
+block_roles other = Value ∷ []
+
+-- the parts of a wire
 abbrev pub roles_of : Item → List Role
 roles_of (Input lo hi) = Value ∷ []
 roles_of (Const value) = Value ∷ []
-roles_of (OfBlock b) = Value ∷ []
+roles_of (Delay init source) = Value ∷ []
+roles_of (OfBlock b) = block_roles b
 
 -- the parts of wires that are numbered from i
 abbrev pub parts_from : ℕ → List Wire → List Part
@@ -114,7 +126,12 @@ no_part = record { wire = record { 0 = 0 }; role = Value }
 
 -- two roles are the same
 abbrev pub same_role : Role → Role → Bool
+same_role Y Y = true
+same_role X1 X1 = true
+same_role X2 X2 = true
+same_role W W = true
 same_role Value Value = true
+same_role one other = false
 
 -- a part is the one of a wire with a role
 abbrev pub is_part : ℕ → Role → Part → Bool

@@ -38,6 +38,40 @@ pub enum Block {
         x: WireNo,
         y: WireNo,
     },
+    /// A proportional block: the input times `k`, which has 16 fractional bits. Here and below `xty` is the
+    /// type of the input and `ty` that of the output.
+    Gain {
+        xty: Ty,
+        ty: Ty,
+        x: WireNo,
+        k: i32,
+    },
+    /// The mean of this row's input and of those of the `n - 1` rows before; `n` is 1 to 1024.
+    Average {
+        xty: Ty,
+        ty: Ty,
+        x: WireNo,
+        n: u16,
+    },
+    /// A lag of first order: `teq`, at most 65536, is the weight of the old state in 1/65536, and `k` the
+    /// gain with 16 fractional bits.
+    Pt1 {
+        xty: Ty,
+        ty: Ty,
+        x: WireNo,
+        teq: u32,
+        k: i32,
+    },
+    /// The same of a difference of two rows' inputs: of this row's and the one's before where it is of the
+    /// second type, else of the one's before and the one's before that.
+    Dt1 {
+        second: bool,
+        xty: Ty,
+        ty: Ty,
+        x: WireNo,
+        teq: u32,
+        k: i32,
+    },
 }
 
 /// What gives a wire its value.
@@ -47,6 +81,9 @@ pub enum Item {
     Input { lo: i64, hi: i64 },
     /// The same value in each row.
     Const { value: i64 },
+    /// `init` in the first row, and later the value that the source had in the row before. The source may
+    /// be any wire of the same kind, also a later one or the delay itself.
+    Delay { init: i64, source: WireNo },
     Block(Block),
 }
 
@@ -66,8 +103,26 @@ impl Item {
         ensures { result.now ≡ roles_of self }
     {
         match self {
-            Item::Input { .. } | Item::Const { .. } => &[Role::Value],
-            Item::Block(_) => &[Role::Value],
+            Item::Input { .. } | Item::Const { .. } | Item::Delay { .. } => &[Role::Value],
+            Item::Block(block) => block.roles(),
+        }
+    }
+}
+
+impl Block {
+    ghost use Rattle.std.specs.Prelude.{◌≡◌};
+    ghost use Rattle.net_model.specs.Wires.{block_roles};
+
+    /// The parts of a wire with this block, in order: its states, then its value.
+    pub fn roles(self) -> &'static [Role]
+        ensures { result.now ≡ block_roles self }
+    {
+        match self {
+            Block::Pt1 { .. } => &[Role::Y, Role::X1, Role::Value],
+            Block::Dt1 { second: true, .. } => &[Role::Y, Role::X1, Role::Value],
+            Block::Dt1 { second: false, .. } => &[Role::Y, Role::X1, Role::X2, Role::Value],
+            Block::Average { .. } => &[Role::W, Role::Value],
+            _ => &[Role::Value],
         }
     }
 }
@@ -83,6 +138,14 @@ pub struct Wire {
 /// What a part of a wire is.
 #[derive(Clone, Copy, Debug, PartialEq, Eq)]
 pub enum Role {
+    /// The state of a block that has one, a raw count with 16 fractional bits.
+    Y,
+    /// The input of this row, kept for the row behind.
+    X1,
+    /// The input of the row before, kept likewise.
+    X2,
+    /// The last inputs of an average, one fewer than it goes over.
+    W,
     /// The wire's value.
     Value,
 }
