@@ -1,0 +1,3 @@
+pub mod FilterRules
+pub mod KeptRules
+pub mod StateEntries
