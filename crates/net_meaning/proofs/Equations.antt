@@ -2,10 +2,10 @@
 use Rattle.std.specs.Prelude.{◌≡◌, ℕ, zero, suc, ◌<◌, List, ℤ}
 use Rattle.std.proofs.Common.{refl, ap, ap₂, arith}
 use Rattle.net_model.specs.declared.wires.Item.{Item}
-use Rattle.net_model.specs.declared.wires.Item.TheVariants.{Input, Const, Block as OfBlock}
+use Rattle.net_model.specs.declared.wires.Item.TheVariants.{Input, Const, Delay, Block as OfBlock}
 use Rattle.net_model.specs.Wires.{NetData, wire_at, argument_of}
-use Rattle.net_meaning.specs.Cells.{Cell, Meaning}
-use Rattle.net_meaning.specs.Runs.{equation_of}
+use Rattle.net_meaning.specs.Cells.{Cell, Meaning, stateless}
+use Rattle.net_meaning.specs.Runs.{delayed, equation_of}
 use Rattle.net_meaning.proofs.Arguments.{ArgumentsEarlier}
 
 -- readings that agree everywhere are one
@@ -16,6 +16,7 @@ pub same_equation : {V : Type 0} (M : Meaning V) (net : NetData) (rows : List (L
 unfolding equation_of
 same_equation M net rows c d i (Input lo hi) earlier now before = refl
 same_equation M net rows c d i (Const value) earlier now before = refl
+same_equation M net rows c d i (Delay init source) earlier now before = ap (λ x. stateless M (delayed M rows init x.value)) (before 0 source.0)
 same_equation M net rows c d i (OfBlock b) earlier now before = ap₂ (M.of_block net (wire_at net.wires i).kind b) (same_readings _ _ read) (before 0 i)
   where
     read : (p ago : ℕ) → (c ago (argument_of b p)).value ≡ (d ago (argument_of b p)).value

@@ -1,7 +1,7 @@
 -- The blocks: one formula each for the value, and one for the state Y where the block has one, all on fractions; and
 -- what the machine and exact fractions make of them.
-use Rattle.std.specs.Prelude.{ℕ, ℤ, pos, negsuc, List, Option, Some, None}
-use Rattle.fx_fraction.specs.Fraction.{Fraction, whole}
+use Rattle.std.specs.Prelude.{ℕ, Bool, ℤ, pos, Option, Some, None, if◌then◌else◌}
+use Rattle.fx_fraction.specs.Fraction.{Fraction, whole, minus}
 use Rattle.fx_core.specs.declared.quotient.Mode.{Mode}
 use Rattle.fx_core.specs.declared.quotient.Mode.TheVariants.{Zero, Near}
 use Rattle.fx_core.specs.Types.{saturated_to}
@@ -9,10 +9,12 @@ use Rattle.fx_core.specs.Values.{rounded_fraction, unsaturated, value_between}
 use Rattle.mfx_scaled.specs.declared.binary_points.Points.{Points}
 use Rattle.net_model.specs.declared.wires.Kind.{Kind}
 use Rattle.net_model.specs.declared.wires.Block.{Block}
-use Rattle.net_model.specs.declared.wires.Block.TheVariants.{Arith, Scaled}
+use Rattle.net_model.specs.declared.wires.Block.TheVariants.{Arith, Scaled, Gain, Average, Pt1, Dt1}
 use Rattle.net_model.specs.Wires.{NetData, wire_at, argument_of, point_of, kind_least, kind_greatest}
 use Rattle.mfx_scaled.specs.Formulas.{scaled_formula, quotient_of as scaled_quotient}
 use Rattle.mfx_arith.specs.Formulas.{arith_formula, quotient_of as arith_quotient}
+use Rattle.efx_filters.specs.Formulas.{gain_formula, lag_formula, value_formula, average_formula}
+pub use Rattle.efx_filters.specs.Formulas.{state_least, state_greatest}
 use Rattle.net_meaning.specs.Cells.{Cell, Meaning}
 
 -- the binary points of a block's arguments and of its own wire
@@ -27,29 +29,42 @@ points_of net kind b = record {
 abbrev pub mode_of : Block → Mode
 mode_of (Arith op v x y z shift) = Zero
 mode_of (Scaled op v x y) = Zero
+mode_of (Gain xty ty x k) = Near
+mode_of (Average xty ty x n) = Near
+mode_of (Pt1 xty ty x teq k) = Near
+mode_of (Dt1 second xty ty x teq k) = Near
 
 -- a block's value, unrounded, from what it reads and its new state
 unfoldable pub formula : NetData → Kind → Block → (ℕ → ℕ → Fraction) → Fraction → Fraction
 formula net kind (Arith op v x y z shift) given state = arith_formula op shift (λ p. given p 0)
 formula net kind (Scaled op v x y) given state = scaled_formula op (points_of net kind (Scaled op v x y)) (λ p. given p 0)
+formula net kind (Gain xty ty x k) given state = gain_formula k (given 0 0)
+formula net kind (Average xty ty x n) given state = average_formula n (given 0)
+formula net kind (Pt1 xty ty x teq k) given state = value_formula state
+formula net kind (Dt1 second xty ty x teq k) given state = value_formula state
+
+-- the difference that drives a differentiating lag, from its inputs so many rows ago: of this row's and the one's before
+-- where it is of the second type, else of the one's before and the one's before that
+abbrev pub difference_of : Bool → (ℕ → Fraction) → Fraction
+difference_of second input = if second then minus (input 0) (input 1) else minus (input 1) (input 2)
 
 -- the new state Y of a block, unrounded, from what it reads and its old state; none where the block has no Y
 unfoldable pub state_formula : NetData → Block → (ℕ → ℕ → Fraction) → Fraction → Option Fraction
 state_formula net (Arith op v x y z shift) given old = None
 state_formula net (Scaled op v x y) given old = None
+state_formula net (Gain xty ty x k) given old = None
+state_formula net (Average xty ty x n) given old = None
+state_formula net (Pt1 xty ty x teq k) given old = Some (lag_formula teq k old (given 0 1))
+state_formula net (Dt1 second xty ty x teq k) given old = Some (lag_formula teq k old (difference_of second (given 0)))
 
 -- the dividend and the divisor of a block that divides, from what it reads
 unfoldable pub quotient_of : NetData → Kind → Block → (ℕ → ℕ → Fraction) → Option (Fraction × Fraction)
 quotient_of net kind (Arith op v x y z shift) given = arith_quotient op shift (λ p. given p 0)
 quotient_of net kind (Scaled op v x y) given = scaled_quotient op (points_of net kind (Scaled op v x y)) (λ p. given p 0)
-
--- the least state Y, as a raw count with 16 fractional bits
-abbrev pub state_least : ℤ
-state_least = negsuc 140737488355327
-
--- the greatest one, likewise
-abbrev pub state_greatest : ℤ
-state_greatest = pos 140737488355327
+quotient_of net kind (Gain xty ty x k) given = None
+quotient_of net kind (Average xty ty x n) given = None
+quotient_of net kind (Pt1 xty ty x teq k) given = None
+quotient_of net kind (Dt1 second xty ty x teq k) given = None
 
 -- whole numbers as fractions
 abbrev pub as_fractions : (ℕ → ℕ → ℤ) → ℕ → ℕ → Fraction

@@ -23,14 +23,18 @@ pub record Meaning (V : Type 0) : Type 0 where
   -- the value of argument number p so many rows ago, and 0 before the first row
   pub of_block : NetData → Kind → Block → (ℕ → ℕ → V) → Cell V → Cell V
 
--- a wire that just has a whole number; its state is 0
-abbrev pub plain : {V : Type 0} → Meaning V → ℤ → Cell V
-plain M z = record {
+-- a wire that just has a value; its state is 0
+abbrev pub stateless : {V : Type 0} → Meaning V → V → Cell V
+stateless M v = record {
   state = M.of_whole (pos 0);
   state_unsaturated = M.of_whole (pos 0);
-  value = M.of_whole z;
-  value_unsaturated = M.of_whole z;
+  value = v;
+  value_unsaturated = v;
 }
+
+-- a wire that just has a whole number
+abbrev pub plain : {V : Type 0} → Meaning V → ℤ → Cell V
+plain M z = stateless M (M.of_whole z)
 
 -- the cell of a wire, so many rows ago, in a table whose newest row comes first; all is 0 before the first row
 abbrev pub cell_at : {V : Type 0} → Meaning V → List (List (Cell V)) → ℕ → ℕ → Cell V

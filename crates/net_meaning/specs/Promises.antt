@@ -3,7 +3,7 @@ use Rattle.std.specs.Prelude.{◌≡◌, ℕ, ◌<◌, ℤ, pos, ◌≤ℤ◌, L
 use Rattle.fx_fraction.specs.Fraction.{Fraction}
 use Rattle.fx_core.specs.Values.{Divides}
 use Rattle.net_model.specs.declared.wires.Item.{Item}
-use Rattle.net_model.specs.declared.wires.Item.TheVariants.{Input, Const, Block as OfBlock}
+use Rattle.net_model.specs.declared.wires.Item.TheVariants.{Input, Const, Delay, Block as OfBlock}
 use Rattle.net_model.specs.declared.wires.Wire.{Wire}
 use Rattle.net_model.specs.Wires.{NetData, wire_at, input_place, inputs_of, kind_least, kind_greatest}
 use Rattle.net_meaning.specs.Cells.{Cell, cell_at, cells_from, wire_values, values_read}
@@ -14,6 +14,7 @@ use Rattle.net_meaning.specs.Runs.{Tables}
 abbrev pub KeepsRange : Item → ℤ → Type 0
 KeepsRange (Input lo hi) v = (lo ≤ℤ v) × (v ≤ℤ hi)
 KeepsRange (Const value) v = Unit {0}
+KeepsRange (Delay init source) v = Unit {0}
 KeepsRange (OfBlock b) v = Unit {0}
 
 -- a row keeps to the declared ranges
@@ -31,6 +32,7 @@ Keeps net rows = (j : ℕ) → j < length rows → KeepsRow net (get_or rows j [
 abbrev pub ItemDivides : NetData → Wire → Item → (ℕ → ℕ → Fraction) → Type 0
 ItemDivides net w (Input lo hi) values = Unit {0}
 ItemDivides net w (Const value) values = Unit {0}
+ItemDivides net w (Delay init source) values = Unit {0}
 ItemDivides net w (OfBlock b) values = Divides (quotient_of net w.kind b (values_read b values))
 
 -- a wire w fits at one row, where m and e are what wires held so many rows ago in the machine and in exact fractions, and

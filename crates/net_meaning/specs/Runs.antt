@@ -3,16 +3,26 @@
 use Rattle.std.specs.Prelude.{◌≡◌, ℕ, zero, suc, ◌<◌, ℤ, pos, List, [], ◌∷◌, ◌++◌, length, get_or, drop}
 use Rattle.fx_fraction.specs.Fraction.{Fraction}
 use Rattle.net_model.specs.declared.wires.Item.{Item}
-use Rattle.net_model.specs.declared.wires.Item.TheVariants.{Input, Const, Block as OfBlock}
+use Rattle.net_model.specs.declared.wires.Item.TheVariants.{Input, Const, Delay, Block as OfBlock}
 use Rattle.net_model.specs.Wires.{NetData, wire_at, input_place, inputs_of}
-use Rattle.net_meaning.specs.Cells.{Cell, Meaning, plain, cell_at, cells_from, wire_values, values_read}
+use Rattle.net_meaning.specs.Cells.{Cell, Meaning, plain, stateless, cell_at, cells_from, wire_values, values_read}
 use Rattle.net_meaning.specs.Blocks.{machine, exact}
 
+-- the newest of the rows is the first
+abbrev pub is_first : List (List ℤ) → Bool
+is_first rows = nat_le (length rows) 1
+
+-- what a delay answers: in the first row its initial value, later what its source had in the row before
+abbrev pub delayed : {V : Type 0} → Meaning V → List (List ℤ) → ℤ → V → V
+delayed M rows init before = if is_first rows then M.of_whole init else before
+
 -- what wire i is said to hold at the newest of the rows, where `cells ago w` is what wire w holds so many rows ago: an
--- input the row's value, a constant its value, a block what its meaning makes of what it reads
+-- input the row's value, a constant its value, a delay its source's value of the row before, a block what its meaning makes
+-- of what it reads
 unfoldable pub equation_of : {V : Type 0} → Meaning V → NetData → List (List ℤ) → (ℕ → ℕ → Cell V) → ℕ → Item → Cell V
 equation_of M net rows cells i (Input lo hi) = plain M (get_or (get_or rows 0 []) (input_place net.wires i) (pos 0))
 equation_of M net rows cells i (Const value) = plain M value
+equation_of M net rows cells i (Delay init source) = stateless M (delayed M rows init (cells 1 source.0).value)
 equation_of M net rows cells i (OfBlock b) =
     M.of_block net (wire_at net.wires i).kind b (values_read b (wire_values cells)) (cells 1 i)
 
