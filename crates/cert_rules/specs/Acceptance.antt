@@ -1,7 +1,7 @@
 -- When a certificate is accepted, and which part fails first where it isn't.
 use Rattle.std.specs.Prelude.{◌≡◌, ℕ, zero, suc, ◌<◌, Bool, true, false, ◌&&◌, List, length, get_or, ℤ, pos, int_le, IsTrue, Option, Some, None, if◌then◌else◌}
 use Rattle.net_model.specs.declared.wires.Item.{Item}
-use Rattle.net_model.specs.declared.wires.Item.TheVariants.{Input, Const, Block as OfBlock}
+use Rattle.net_model.specs.declared.wires.Item.TheVariants.{Delay}
 use Rattle.net_model.specs.declared.wires.Role.{Role}
 use Rattle.net_model.specs.declared.wires.Role.TheVariants.{Value}
 use Rattle.net_model.specs.declared.wires.Part.{Part}
@@ -17,11 +17,11 @@ abbrev pub is_allowed_entry : NetData → Part → Bounds → Bool
 is_allowed_entry net part b =
     is_allowed net part b && int_le b.lo b.hi && int_le (pos 0) b.err
 
--- the value from which a part starts, where it starts from one: no part of a built block does
+-- the value from which a part starts, where it starts from one: a delay from its initial value, a state from 0
 abbrev pub start_of : Item → Role → Option ℤ
-start_of (Input lo hi) Value = None
-start_of (Const value) Value = None
-start_of (OfBlock b) Value = None
+start_of (Delay init source) Value = Some init
+start_of item Value = None
+start_of item state = Some (pos 0)
 
 -- the value from which a part starts lies in the entry's range
 abbrev pub starts_inside : Option ℤ → Bounds → Bool

@@ -1,32 +1,58 @@
 -- The rule of each part: what it reads, and the bounds that it gives from those of what it reads.
-use Rattle.std.specs.Prelude.{ℕ, ◌^◌, Bool, ◌&&◌, ℤ, pos, int_le, int_lt, Option, Some, None, if◌then◌else◌}
+use Rattle.std.specs.Prelude.{ℕ, ◌-◌, ◌^◌, Bool, true, false, ◌&&◌, List, [], ◌∷◌, get_or, ℤ, pos, int_le, int_lt, Option, Some, None, if◌then◌else◌}
 use Rattle.net_model.specs.declared.wires.Kind.{Kind}
 use Rattle.net_model.specs.declared.wires.Block.{Block}
-use Rattle.net_model.specs.declared.wires.Block.TheVariants.{Arith, Scaled}
+use Rattle.net_model.specs.declared.wires.Block.TheVariants.{Arith, Scaled, Gain, Average, Pt1, Dt1}
 use Rattle.net_model.specs.declared.wires.Item.{Item}
-use Rattle.net_model.specs.declared.wires.Item.TheVariants.{Input, Const, Block as OfBlock}
+use Rattle.net_model.specs.declared.wires.Item.TheVariants.{Input, Const, Delay, Block as OfBlock}
 use Rattle.net_model.specs.declared.wires.Role.{Role}
-use Rattle.net_model.specs.declared.wires.Role.TheVariants.{Value}
+use Rattle.net_model.specs.declared.wires.Role.TheVariants.{Y, X1, X2, W, Value}
 use Rattle.net_model.specs.declared.wires.Part.{Part}
-use Rattle.net_model.specs.Wires.{NetData, wire_at, kind_least, kind_greatest, argument_of}
-use Rattle.net_meaning.specs.Blocks.{points_of}
+use Rattle.net_model.specs.Wires.{NetData, wire_at, kind_least, kind_greatest, argument_of, no_part}
+use Rattle.net_meaning.specs.Blocks.{points_of, state_least, state_greatest}
 use Rattle.part_rules.specs.declared.bounds.Bounds.{Bounds}
-use Rattle.part_rules.specs.PartRules.{PartRule, fixed_rule, given_by, renamed}
+use Rattle.part_rules.specs.Within.{no_bounds}
+use Rattle.part_rules.specs.PartRules.{PartRule, Reading, bounds_at, fixed_rule, given_by, read_before, read_now, renamed}
 use Rattle.mfx_rules.specs.OperationRules.{arith_rule, scaled_rule}
+use Rattle.efx_rules.specs.KeptRules.{gain_rule, lag_rule, difference_rule, value_rule, average_rule}
+
+-- ---- parts
+
+-- a part of wire number i
+abbrev pub part_on : ℕ → Role → Part
+part_on i role = record { wire = record { 0 = i }; role = role }
+
+-- the value of argument number p of a block, as a part
+abbrev pub argument_part : Block → ℕ → Part
+argument_part b p = part_on (argument_of b p) Value
+
+-- the wire whose values a part of wire number i holds: what a block keeps of earlier rows are values of its input; any other
+-- part is of its own wire
+abbrev pub held_wire : ℕ → Item → Role → ℕ
+held_wire i (OfBlock b) X1 = argument_of b 0
+held_wire i (OfBlock b) X2 = argument_of b 0
+held_wire i (OfBlock b) W = argument_of b 0
+held_wire i item role = i
+
+-- the same of a part
+abbrev pub holder : NetData → Part → ℕ
+holder net part = held_wire part.wire.0 (wire_at net.wires part.wire.0).item part.role
 
 -- ---- which bounds a part may have
 
--- the least value of a part, by its role and the kind of its wire
+-- the least value of a part, by its role and the kind of the wire whose values it holds; a state has its own 48 bits
 abbrev pub least_by_role : Kind → Role → ℤ
-least_by_role kind Value = kind_least kind
+least_by_role kind Y = state_least
+least_by_role kind other = kind_least kind
 
 -- the greatest one
 abbrev pub greatest_by_role : Kind → Role → ℤ
-greatest_by_role kind Value = kind_greatest kind
+greatest_by_role kind Y = state_greatest
+greatest_by_role kind other = kind_greatest kind
 
--- the kind of the wire on which a part stands
+-- the kind of the wire whose values a part holds
 abbrev pub kind_of_part : NetData → Part → Kind
-kind_of_part net part = (wire_at net.wires part.wire.0).kind
+kind_of_part net part = (wire_at net.wires (holder net part)).kind
 
 -- the least value of a part
 abbrev pub least_of_part : NetData → Part → ℤ
@@ -38,7 +64,8 @@ greatest_of_part net part = greatest_by_role (kind_of_part net part) part.role
 
 -- the number that the error of a part has to be below
 abbrev pub cap_of_role : Role → ℤ
-cap_of_role Value = pos (2 ^ 40)
+cap_of_role Y = pos (2 ^ 56)
+cap_of_role other = pos (2 ^ 40)
 
 -- a number lies between the ends of a part
 abbrev pub is_between_ends : NetData → Part → ℤ → Bool
@@ -51,26 +78,56 @@ is_allowed net part b =
 
 -- ---- the rules
 
--- the value of argument number p of a block, as a part
-abbrev pub argument_part : Block → ℕ → Part
-argument_part b p = record { wire = record { 0 = argument_of b p }; role = Value }
+-- the bounds of what is read, as they are
+abbrev pub copied_rule : Reading Part → PartRule Part
+copied_rule reading = record { reads = reading ∷ []; fails = λ given. false; bounds = λ given. bounds_at given 0 }
 
--- the rule of a part of a block on a wire of a kind, one line for each part of a family's blocks
-unfoldable pub block_rule : NetData → Kind → Block → Role → PartRule Part
-block_rule net kind (Arith op v x y z shift) Value =
+-- of what isn't a part there are no bounds
+abbrev pub no_rule : PartRule Part
+no_rule = record { reads = []; fails = λ given. true; bounds = λ given. no_bounds }
+
+-- part number p of a list, from 0
+abbrev pub listed : List Part → ℕ → Part
+listed parts p = get_or parts p no_part
+
+-- the rule of a part of a block on wire number i, one line for each part of a family's blocks
+unfoldable pub block_rule : NetData → ℕ → Block → Role → PartRule Part
+block_rule net i (Arith op v x y z shift) Value =
     renamed (argument_part (Arith op v x y z shift)) (arith_rule op shift)
-block_rule net kind (Scaled op v x y) Value =
-    let b = Scaled op v x y in renamed (argument_part b) (scaled_rule op (points_of net kind b))
+block_rule net i (Scaled op v x y) Value =
+    let b = Scaled op v x y in renamed (argument_part b) (scaled_rule op (points_of net (wire_at net.wires i).kind b))
+block_rule net i (Gain xty ty x k) Value = renamed (listed (part_on x.0 Value ∷ [])) (gain_rule k)
+block_rule net i (Average xty ty x n) W = copied_rule (read_now (part_on x.0 Value))
+block_rule net i (Average xty ty x n) Value = renamed (listed (part_on x.0 Value ∷ part_on i W ∷ [])) average_rule
+block_rule net i (Pt1 xty ty x teq k) Y = renamed (listed (part_on i Y ∷ part_on i X1 ∷ [])) (lag_rule teq k)
+block_rule net i (Pt1 xty ty x teq k) X1 = copied_rule (read_now (part_on x.0 Value))
+block_rule net i (Pt1 xty ty x teq k) Value = renamed (listed (part_on i Y ∷ [])) value_rule
+block_rule net i (Dt1 true xty ty x teq k) Y =
+    renamed (listed (part_on i Y ∷ part_on x.0 Value ∷ part_on i X1 ∷ [])) (difference_rule true teq k)
+block_rule net i (Dt1 false xty ty x teq k) Y =
+    renamed (listed (part_on i Y ∷ part_on i X1 ∷ part_on i X2 ∷ [])) (difference_rule false teq k)
+block_rule net i (Dt1 second xty ty x teq k) X1 = copied_rule (read_now (part_on x.0 Value))
+block_rule net i (Dt1 second xty ty x teq k) X2 = copied_rule (read_before (part_on i X1))
+block_rule net i (Dt1 second xty ty x teq k) Value = renamed (listed (part_on i Y ∷ [])) value_rule
+block_rule net i other role = no_rule
 
--- the rule of a part of a wire with this kind and item
-abbrev pub item_rule : NetData → Kind → Item → Role → PartRule Part
-item_rule net kind (Input lo hi) Value = fixed_rule lo hi
-item_rule net kind (Const value) Value = fixed_rule value value
-item_rule net kind (OfBlock b) role = block_rule net kind b role
+-- how many values a part of a wire with this item holds: a window the inputs of as many rows as its average goes over but
+-- the newest, any other part one
+abbrev pub count_held : Item → Role → ℕ
+count_held (OfBlock (Average xty ty x n)) W = n - 1
+count_held item role = 1
+
+-- the rule of a part of wire number i with this item
+abbrev pub item_rule : NetData → ℕ → Item → Role → PartRule Part
+item_rule net i (Input lo hi) Value = fixed_rule lo hi
+item_rule net i (Const value) Value = fixed_rule value value
+item_rule net i (Delay init source) Value = copied_rule (read_before (part_on source.0 Value))
+item_rule net i (OfBlock b) role = block_rule net i b role
+item_rule net i item role = no_rule
 
 -- the rule of a part
 abbrev pub part_rule : NetData → Part → PartRule Part
-part_rule net part = let w = wire_at net.wires part.wire.0 in item_rule net w.kind w.item part.role
+part_rule net part = item_rule net part.wire.0 (wire_at net.wires part.wire.0).item part.role
 
 -- ---- what they give
 

@@ -1,41 +1,68 @@
 -- That the rule of each part is sound: where all that it reads is within its entries, what the part's equation gives is
 -- within the rule's bounds. Wires may hold any cells here, not only those of a run: `m ago w` is what wire w held so many
 -- rows ago in the machine, and `e ago w` what it held in exact fractions.
-use Rattle.std.specs.Prelude.{◌≡◌, ℕ, ◌<◌, List, [], length, get_or, ℤ, pos, Some, IsTrue}
+use Rattle.std.specs.Prelude.{◌≡◌, ℕ, zero, suc, ◌<◌, false, List, [], length, get_or, ℤ, pos, Some, IsTrue}
 use Rattle.fx_fraction.specs.Fraction.{Fraction}
+use Rattle.net_model.specs.declared.wires.Item.{Item}
+use Rattle.net_model.specs.declared.wires.Item.TheVariants.{Delay}
 use Rattle.net_model.specs.declared.wires.Role.{Role}
-use Rattle.net_model.specs.declared.wires.Role.TheVariants.{Value}
+use Rattle.net_model.specs.declared.wires.Role.TheVariants.{Y, X2, Value}
+use Rattle.net_model.specs.declared.wires.Part.{Part}
 use Rattle.net_model.specs.declared.wires.Wire.{Wire}
 use Rattle.net_model.specs.Wires.{NetData, wire_at, parts_of, input_place}
 use Rattle.net_model.specs.Validity.{IsValid}
 use Rattle.net_meaning.specs.Cells.{Cell, wire_values}
 use Rattle.net_meaning.specs.Blocks.{machine, exact, as_fractions}
-use Rattle.net_meaning.specs.Runs.{equation}
+use Rattle.net_meaning.specs.Runs.{equation, is_first}
 use Rattle.net_meaning.specs.Promises.{KeepsRange, ItemDivides}
 use Rattle.part_rules.specs.declared.bounds.Bounds.{Bounds}
 use Rattle.part_rules.specs.Within.{IsWithin}
-use Rattle.cert_rules.specs.Certificates.{entry_of, held_by}
+use Rattle.cert_rules.specs.Rules.{count_held, holder}
+use Rattle.cert_rules.specs.Certificates.{entry_of}
 use Rattle.cert_rules.specs.Acceptance.{is_allowed_at, part_at}
 use Rattle.cert_rules.specs.Arguments.{reads_ago, reads_at, rule_by}
 
--- what a cell has of a part of its wire before saturation
-abbrev pub raw_by : {V : Type 0} → Role → Cell V → V
-raw_by Value cell = cell.value_unsaturated
+-- ---- what parts hold
+
+-- the same cells as they were so many rows before
+abbrev pub back : {V : Type 0} → ℕ → (ℕ → ℕ → Cell V) → ℕ → ℕ → Cell V
+back zero cells = cells
+back (suc rows) cells = back rows (λ ago w. cells (suc ago) w)
+
+-- value number n, from the newest, of a part of this role that holds values of a wire
+abbrev pub value_held : {V : Type 0} → Role → ℕ → (ℕ → ℕ → Cell V) → ℕ → V
+value_held Y wire cells n = (cells n wire).state
+value_held X2 wire cells n = (cells (suc n) wire).value
+value_held other wire cells n = (cells n wire).value
+
+-- value number n of a part, from the newest
+abbrev pub value_of : {V : Type 0} → NetData → Part → (ℕ → ℕ → Cell V) → ℕ → V
+value_of net part cells n = value_held part.role (holder net part) cells n
+
+-- how many values a part holds
+abbrev pub count_of : NetData → Part → ℕ
+count_of net part = count_held (wire_at net.wires part.wire.0).item part.role
+
+-- where wires hold these cells, each value of a part is within its entry
+abbrev pub IsPartHeld : NetData → List Bounds → Part → (ℕ → ℕ → Cell ℤ) → (ℕ → ℕ → Cell Fraction) → Type 0
+IsPartHeld net entries part m e =
+    (n : ℕ) → n < count_of net part → IsWithin (entry_of net entries part) (value_of net part m n) (value_of net part e n)
+
+-- the same of part number k
+abbrev pub IsHeld : NetData → List Bounds → ℕ → (ℕ → ℕ → Cell ℤ) → (ℕ → ℕ → Cell Fraction) → Type 0
+IsHeld net entries k m e = IsPartHeld net entries (part_at net k) m e
+
+-- ---- what a rule promises
 
 -- the wire on which part number p stands
 abbrev pub wire_of : NetData → ℕ → Wire
 wire_of net p = wire_at net.wires (part_at net p).wire.0
 
--- where wires hold these cells at one row, part number k is within its entry
-abbrev pub IsHeld : NetData → List Bounds → ℕ → (ℕ → Cell ℤ) → (ℕ → Cell Fraction) → Type 0
-IsHeld net entries k m e =
-    let part = part_at net k in
-    IsWithin (entry_of net entries part) (held_by part.role (m part.wire.0)) (held_by part.role (e part.wire.0))
-
 -- each part that the rule of part number p reads is within its entry, at each row of which the rule reads it
 abbrev pub IsGiven : NetData → List Bounds → ℕ → (ℕ → ℕ → Cell ℤ) → (ℕ → ℕ → Cell Fraction) → Type 0
 IsGiven net entries p m e =
-    (k ago : ℕ) → k < length (parts_of net.wires) → IsTrue (reads_ago net p k ago) → IsHeld net entries k (m ago) (e ago)
+    (k ago : ℕ) → k < length (parts_of net.wires) → IsTrue (reads_ago net p k ago) →
+    IsHeld net entries k (back ago m) (back ago e)
 
 -- where the wire of part number p is an input, its value of the newest row lies in the declared range
 abbrev pub KeepsInput : NetData → ℕ → List (List ℤ) → Type 0
@@ -43,15 +70,33 @@ KeepsInput net p rows =
     let place = input_place net.wires (part_at net p).wire.0 in
     KeepsRange (wire_of net p).item (get_or (get_or rows 0 []) place (pos 0))
 
+-- a wire with this item has a row before the newest, where it is a delay: in the first it has its initial value
+abbrev pub IsUnderWay : Item → List (List ℤ) → Type 0
+IsUnderWay (Delay init source) rows = is_first rows ≡ false
+IsUnderWay other rows = Unit {0}
+
+-- what a part has before saturation, of this role: by the cell of its wire, or where it holds values of another wire the newest
+-- of these
+abbrev pub raw_by : {V : Type 0} → Role → Cell V → V → V
+raw_by Value cell newest = cell.value_unsaturated
+raw_by Y cell newest = cell.state_unsaturated
+raw_by other cell newest = newest
+
+-- what it has then
+abbrev pub new_by : {V : Type 0} → Role → Cell V → V → V
+new_by Value cell newest = cell.value
+new_by Y cell newest = cell.state
+new_by other cell newest = newest
+
 -- what part number p's equation gives over the rows in the machine, before saturation
 abbrev pub machine_raw : NetData → ℕ → List (List ℤ) → (ℕ → ℕ → Cell ℤ) → ℤ
 machine_raw net p rows m =
-    raw_by (part_at net p).role (equation machine net rows m (part_at net p).wire.0)
+    let part = part_at net p in raw_by part.role (equation machine net rows m part.wire.0) (value_of net part m 0)
 
 -- what it gives in exact fractions
 abbrev pub exact_value : NetData → ℕ → List (List ℤ) → (ℕ → ℕ → Cell Fraction) → Fraction
 exact_value net p rows e =
-    held_by (part_at net p).role (equation exact net rows e (part_at net p).wire.0)
+    let part = part_at net p in new_by part.role (equation exact net rows e part.wire.0) (value_of net part e 0)
 
 -- part number p keeps to bounds
 pub record KeepsBounds (net : NetData) (p : ℕ) (rows : List (List ℤ)) (m : ℕ → ℕ → Cell ℤ) (e : ℕ → ℕ → Cell Fraction)
@@ -75,5 +120,5 @@ RulesAreSound =
     (net : NetData) → IsValid net →
     (entries : List Bounds) (p : ℕ) → p < length (parts_of net.wires) → AreAllowedFor net entries p →
     (rows : List (List ℤ)) (m : ℕ → ℕ → Cell ℤ) (e : ℕ → ℕ → Cell Fraction) →
-    KeepsInput net p rows → IsGiven net entries p m e →
+    KeepsInput net p rows → IsUnderWay (wire_of net p).item rows → IsGiven net entries p m e →
     (bounds : Bounds) → rule_by net p (entry_of net entries) ≡ Some bounds → KeepsBounds net p rows m e bounds
