@@ -28,15 +28,15 @@ argument_part b p = part_on (argument_of b p) Value
 
 -- the wire whose values a part of wire number i holds: what a block keeps of earlier rows are values of its input; any other
 -- part is of its own wire
-abbrev pub held_wire : ℕ → Item → Role → ℕ
-held_wire i (OfBlock b) X1 = argument_of b 0
-held_wire i (OfBlock b) X2 = argument_of b 0
-held_wire i (OfBlock b) W = argument_of b 0
-held_wire i item role = i
+abbrev pub held_wire : Role → ℕ → Item → ℕ
+held_wire Y i item = i
+held_wire Value i item = i
+held_wire kept i (OfBlock b) = argument_of b 0
+held_wire kept i item = i
 
 -- the same of a part
 abbrev pub holder : NetData → Part → ℕ
-holder net part = held_wire part.wire.0 (wire_at net.wires part.wire.0).item part.role
+holder net part = held_wire part.role part.wire.0 (wire_at net.wires part.wire.0).item
 
 -- ---- which bounds a part may have
 
@@ -107,15 +107,16 @@ block_rule net i (Dt1 true xty ty x teq k) Y =
 block_rule net i (Dt1 false xty ty x teq k) Y =
     renamed (listed (part_on i Y ∷ part_on i X1 ∷ part_on i X2 ∷ [])) (difference_rule false teq k)
 block_rule net i (Dt1 second xty ty x teq k) X1 = copied_rule (read_now (part_on x.0 Value))
-block_rule net i (Dt1 second xty ty x teq k) X2 = copied_rule (read_before (part_on i X1))
+block_rule net i (Dt1 false xty ty x teq k) X2 = copied_rule (read_before (part_on i X1))
 block_rule net i (Dt1 second xty ty x teq k) Value = renamed (listed (part_on i Y ∷ [])) value_rule
 block_rule net i other role = no_rule
 
 -- how many values a part of a wire with this item holds: a window the inputs of as many rows as its average goes over but
 -- the newest, any other part one
-abbrev pub count_held : Item → Role → ℕ
-count_held (OfBlock (Average xty ty x n)) W = n - 1
-count_held item role = 1
+abbrev pub count_held : Role → Item → ℕ
+count_held W (OfBlock (Average xty ty x n)) = n - 1
+count_held W item = 1
+count_held role item = 1
 
 -- the rule of a part of wire number i with this item
 abbrev pub item_rule : NetData → ℕ → Item → Role → PartRule Part

@@ -41,7 +41,7 @@ value_of net part cells n = value_held part.role (holder net part) cells n
 
 -- how many values a part holds
 abbrev pub count_of : NetData → Part → ℕ
-count_of net part = count_held (wire_at net.wires part.wire.0).item part.role
+count_of net part = count_held part.role (wire_at net.wires part.wire.0).item
 
 -- where wires hold these cells, each value of a part is within its entry
 abbrev pub IsPartHeld : NetData → List Bounds → Part → (ℕ → ℕ → Cell ℤ) → (ℕ → ℕ → Cell Fraction) → Type 0

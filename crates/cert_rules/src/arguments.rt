@@ -1,14 +1,14 @@
 // Which parts the rule of a part reads.
 
-ghost use Rattle.std.specs.Prelude.{◌≡◌, ◌<◌, ◌==◌, length, slice_get};
+ghost use Rattle.std.specs.Prelude.{◌≡◌, ◌<◌, ℕ, ℤ, [], ◌∷◌, length, slice_get};
 ghost use Rattle.std.specs.List.{list_any};
-ghost use Rattle.net_model.specs.declared.wires.Kind.{Kind};
-ghost use Rattle.net_model.specs.Wires.{NetData, parts_of, same_role};
-ghost use Rattle.cert_rules.specs.Arguments.{RulesReadTheirArguments, is_read_ever, read_by, reads_at};
+ghost use Rattle.net_model.specs.Wires.{NetData, is_part, parts_of, same_role};
+ghost use Rattle.cert_rules.specs.Arguments.{RulesReadTheirArguments, read_by, reads_at};
+ghost use Rattle.cert_rules.specs.GivenBounds.{average_parts, difference_parts, lag_parts, parts_in, value_parts};
 ghost use Rattle.cert_rules.specs.Rules.{block_rule, item_rule};
 
-use crate::lookups::{item_at, part_numbered};
-use net_model::{Block, Item, Network, Part, PartNo, Role, WireNo, form_of};
+use crate::lookups::{item_at, part_numbered, part_on};
+use net_model::{Block, Few, Item, Network, Part, PartNo, Role, WireNo, form_of};
 
 /// The part of number `i`, from 0, among those whose bounds a part's rule reads, in the order of the network
 /// and each once: None where the rule reads no more than `i`.
@@ -40,48 +40,139 @@ fn reads_at(net: &Network, part: PartNo, other: PartNo) -> bool
     ensures { result ≡ reads_at net.now part.0 other.0 }
 {
     let part = part_numbered(net, part);
-    reads(
-        item_at(net, part.wire),
-        part.role,
-        part_numbered(net, other),
-    )
+    let reads = parts_read(part.wire, &item_at(net, part.wire), part.role);
+    is_among(reads.as_slice(), part_numbered(net, other))
 }
 
-/// Whether the rule of a part of this role, on a wire with this item, reads another part.
-fn reads(item: Item, role: Role, other: Part) -> bool
-    ensures { (net : NetData) (kind : Kind) → result ≡ is_read_ever (item_rule net kind item role).reads other }
+fn is_among(parts: &[Part], other: Part) -> bool
+    ensures { result ≡ list_any (is_part other.wire.0 other.role) parts.now }
 {
-    match role {
-        Role::Value => value_reads(item, other),
-    }
-}
-
-/// The same of a wire's value.
-fn value_reads(item: Item, other: Part) -> bool
-    ensures { (net : NetData) (kind : Kind) → result ≡ is_read_ever (item_rule net kind item Role.Value).reads other }
-{
-    match item {
-        Item::Input { .. } | Item::Const { .. } => false,
-        Item::Block(block) => block_reads(&block, other),
-    }
-}
-
-/// The same of a block's value: it reads the value of each wire that the block reads.
-fn block_reads(block: &Block, other: Part) -> bool
-    ensures { (net : NetData) (kind : Kind) → result ≡ is_read_ever (block_rule net kind block.now Role.Value).reads other }
-{
-    let form = form_of(*block);
-    same_role(Role::Value, other.role) && is_among(form.wires.as_slice(), other.wire)
-}
-
-fn is_among(wires: &[WireNo], wire: WireNo) -> bool
-    ensures { result ≡ list_any (λ w. w.0 == wire.0) wires.now }
-{
-    wires.iter().any(|other| other.0 == wire.0)
+    parts
+        .iter()
+        .any(|part| part.wire.0 == other.wire.0 && same_role(part.role, other.role))
 }
 
 fn same_role(one: Role, other: Role) -> bool
     ensures { result ≡ same_role one other }
 {
     one == other
+}
+
+/// The parts that the rule of a part reads, in its order: here by the wire, what it has, and the part's role.
+pub(crate) fn parts_read(wire: WireNo, item: &Item, role: Role) -> Few<Part>
+    ensures { (net : NetData) → result ≡ parts_in (item_rule net wire.0 item.now role).reads }
+{
+    match *item {
+        Item::Input { .. } | Item::Const { .. } => none(),
+        Item::Delay { source, .. } => source_read(source, role),
+        Item::Block(block) => block_reads(wire, &block, role),
+    }
+}
+
+/// Of a delay: its source.
+fn source_read(source: WireNo, role: Role) -> Few<Part>
+    ensures { (net : NetData) (i : ℕ) (init : ℤ) → result ≡ parts_in (item_rule net i (Item.Delay init source) role).reads }
+{
+    match role {
+        Role::Value => one(part_on(source, Role::Value)),
+        _ => none(),
+    }
+}
+
+/// Of a block on a wire: of one without a state the values of the wires that it reads.
+#[tactic(auto, unfolding(crate::specs::Rules::block_rule))]
+fn block_reads(wire: WireNo, block: &Block, role: Role) -> Few<Part>
+    ensures { (net : NetData) → result ≡ parts_in (block_rule net wire.0 block.now role).reads }
+{
+    match *block {
+        Block::Pt1 { x, .. } => lag_reads(wire, x, role),
+        Block::Dt1 { second, x, .. } => difference_reads(second, wire, x, role),
+        Block::Average { x, .. } => average_reads(wire, x, role),
+        _ => values_read(block, role),
+    }
+}
+
+fn lag_reads(wire: WireNo, x: WireNo, role: Role) -> Few<Part>
+    ensures { result ≡ lag_parts wire.0 x.0 role }
+{
+    match role {
+        Role::Y => two(part_on(wire, Role::Y), part_on(wire, Role::X1)),
+        Role::X1 => one(part_on(x, Role::Value)),
+        Role::Value => one(part_on(wire, Role::Y)),
+        _ => none(),
+    }
+}
+
+fn difference_reads(second: bool, wire: WireNo, x: WireNo, role: Role) -> Few<Part>
+    ensures { result ≡ difference_parts second wire.0 x.0 role }
+{
+    match role {
+        Role::Y => {
+            let state = part_on(wire, Role::Y);
+            let older = part_on(wire, Role::X1);
+            if second {
+                three(state, part_on(x, Role::Value), older)
+            } else {
+                three(state, older, part_on(wire, Role::X2))
+            }
+        }
+        Role::X1 => one(part_on(x, Role::Value)),
+        Role::X2 if !second => one(part_on(wire, Role::X1)),
+        Role::Value => one(part_on(wire, Role::Y)),
+        _ => none(),
+    }
+}
+
+fn average_reads(wire: WireNo, x: WireNo, role: Role) -> Few<Part>
+    ensures { result ≡ average_parts wire.0 x.0 role }
+{
+    let input = part_on(x, Role::Value);
+    match role {
+        Role::W => one(input),
+        Role::Value => two(input, part_on(wire, Role::W)),
+        _ => none(),
+    }
+}
+
+/// The values of the wires that a block reads.
+fn values_read(block: &Block, role: Role) -> Few<Part>
+    ensures { result ≡ value_parts block.now role }
+{
+    let mut parts = none();
+    if same_role(role, Role::Value) {
+        let form = form_of(*block);
+        for wire in form.wires.as_slice() {
+            parts.push(part_on(*wire, Role::Value));
+        }
+    }
+    parts
+}
+
+const NO_PART: Part = Part {
+    wire: WireNo(0),
+    role: Role::Value,
+};
+
+fn none() -> Few<Part>
+    ensures { result ≡ [] }
+{
+    Few::of([NO_PART; 4], 0)
+}
+
+fn one(first: Part) -> Few<Part>
+    ensures { result ≡ first ∷ [] }
+{
+    Few::of([first; 4], 1)
+}
+
+fn two(first: Part, second: Part) -> Few<Part>
+    ensures { result ≡ first ∷ second ∷ [] }
+{
+    Few::of([first, second, NO_PART, NO_PART], 2)
+}
+
+fn three(first: Part, second: Part, third: Part) -> Few<Part>
+    ensures { result ≡ first ∷ second ∷ third ∷ [] }
+{
+    Few::of([first, second, third, NO_PART], 3)
 }
