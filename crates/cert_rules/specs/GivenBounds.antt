@@ -1,11 +1,9 @@
 -- The bounds that a rule is given in code; for private functions' clauses alone.
-use Rattle.std.specs.Prelude.{◌≡◌, ℕ, ◌<◌, Bool, true, false, List, [], ◌∷◌, length, get_or, map, IsTrue, Option, Some, None}
-use Rattle.net_model.specs.declared.wires.Block.{Block}
+use Rattle.std.specs.Prelude.{◌≡◌, ℕ, ◌<◌, List, length, get_or, map, IsTrue, Option, Some, None}
 use Rattle.net_model.specs.declared.wires.Role.{Role}
-use Rattle.net_model.specs.declared.wires.Role.TheVariants.{Y, X1, X2, W, Value}
+use Rattle.net_model.specs.declared.wires.Role.TheVariants.{Y, Value}
 use Rattle.net_model.specs.declared.wires.Part.{Part}
 use Rattle.net_model.specs.Wires.{NetData, no_part}
-use Rattle.net_model.specs.BlockForms.{form_of}
 use Rattle.part_rules.specs.declared.bounds.Bounds.{Bounds}
 use Rattle.part_rules.specs.Entries.{IsSmall, if_small}
 use Rattle.part_rules.specs.Within.{no_bounds}
@@ -61,32 +59,3 @@ pub record AreSized (reads : List (Reading Part)) (given : Given) : Type 0 where
   pub first : IsSized (reading_at reads 0).part.role given.first
   pub second : IsSized (reading_at reads 1).part.role given.second
   pub third : IsSized (reading_at reads 2).part.role given.third
-
--- ---- what is read, family by family
-
--- of a lag on wire i with the input x
-abbrev pub lag_parts : ℕ → ℕ → Role → List Part
-lag_parts i x Y = part_on i Y ∷ part_on i X1 ∷ []
-lag_parts i x X1 = part_on x Value ∷ []
-lag_parts i x Value = part_on i Y ∷ []
-lag_parts i x other = []
-
--- of a lag that a difference drives
-abbrev pub difference_parts : Bool → ℕ → ℕ → Role → List Part
-difference_parts true i x Y = part_on i Y ∷ part_on x Value ∷ part_on i X1 ∷ []
-difference_parts false i x Y = part_on i Y ∷ part_on i X1 ∷ part_on i X2 ∷ []
-difference_parts second i x X1 = part_on x Value ∷ []
-difference_parts false i x X2 = part_on i X1 ∷ []
-difference_parts second i x Value = part_on i Y ∷ []
-difference_parts second i x other = []
-
--- of an average
-abbrev pub average_parts : ℕ → ℕ → Role → List Part
-average_parts i x W = part_on x Value ∷ []
-average_parts i x Value = part_on x Value ∷ part_on i W ∷ []
-average_parts i x other = []
-
--- of any other block: the values of the wires that it reads
-abbrev pub value_parts : Block → Role → List Part
-value_parts b Value = map (λ w. value_part w.0) (form_of b).wires
-value_parts b other = []

@@ -1,11 +1,12 @@
 // Which parts the rule of a part reads.
 
-ghost use Rattle.std.specs.Prelude.{◌≡◌, ◌<◌, ℕ, ℤ, [], ◌∷◌, length, slice_get};
+ghost use Rattle.std.specs.Prelude.{◌≡◌, ◌<◌, ℕ, ℤ, [], ◌∷◌, length, map, slice_get};
 ghost use Rattle.std.specs.List.{list_any};
-ghost use Rattle.net_model.specs.Wires.{NetData, is_part, parts_of, same_role};
+ghost use Rattle.net_model.specs.Wires.{NetData, block_roles, has_role, is_part, parts_of, same_role};
+ghost use Rattle.net_model.specs.BlockForms.{form_of};
 ghost use Rattle.cert_rules.specs.Arguments.{RulesReadTheirArguments, read_by, reads_at};
-ghost use Rattle.cert_rules.specs.GivenBounds.{average_parts, difference_parts, lag_parts, parts_in, value_parts};
-ghost use Rattle.cert_rules.specs.Rules.{block_rule, item_rule};
+ghost use Rattle.cert_rules.specs.GivenBounds.{parts_in, value_part};
+ghost use Rattle.cert_rules.specs.Rules.{block_rule, item_rule, kept_reading, kept_rule_of, kept_wire, state_rule_of, value_rule_of};
 
 use crate::lookups::{item_at, part_numbered, part_on};
 use net_model::{Block, Few, Item, Network, Part, PartNo, Role, WireNo, form_of};
@@ -79,71 +80,87 @@ fn source_read(source: WireNo, role: Role) -> Few<Part>
     }
 }
 
-/// Of a block on a wire: of one without a state the values of the wires that it reads.
-#[tactic(auto, unfolding(crate::specs::Rules::block_rule))]
+/// Of a block on a wire.
 fn block_reads(wire: WireNo, block: &Block, role: Role) -> Few<Part>
     ensures { (net : NetData) → result ≡ parts_in (block_rule net wire.0 block.now role).reads }
 {
+    match role {
+        Role::Value => value_reads(wire, block),
+        Role::Y => state_reads(wire, block),
+        Role::X1 | Role::X2 | Role::W => kept_reads(wire, block, role),
+    }
+}
+
+/// Of a block's value: the values of the wires that the block reads, where it has no state.
+fn value_reads(wire: WireNo, block: &Block) -> Few<Part>
+    ensures { (net : NetData) → result ≡ parts_in (value_rule_of net wire.0 block.now).reads }
+{
     match *block {
-        Block::Pt1 { x, .. } => lag_reads(wire, x, role),
-        Block::Dt1 { second, x, .. } => difference_reads(second, wire, x, role),
-        Block::Average { x, .. } => average_reads(wire, x, role),
-        _ => values_read(block, role),
+        Block::Pt1 { .. } | Block::Dt1 { .. } => one(part_on(wire, Role::Y)),
+        Block::Average { x, .. } => two(part_on(x, Role::Value), part_on(wire, Role::W)),
+        _ => arguments_read(block),
     }
 }
 
-fn lag_reads(wire: WireNo, x: WireNo, role: Role) -> Few<Part>
-    ensures { result ≡ lag_parts wire.0 x.0 role }
+/// Of a block's state Y.
+fn state_reads(wire: WireNo, block: &Block) -> Few<Part>
+    ensures { result ≡ parts_in (state_rule_of wire.0 block.now).reads }
 {
-    match role {
-        Role::Y => two(part_on(wire, Role::Y), part_on(wire, Role::X1)),
-        Role::X1 => one(part_on(x, Role::Value)),
-        Role::Value => one(part_on(wire, Role::Y)),
+    let state = part_on(wire, Role::Y);
+    let last = part_on(wire, Role::X1);
+    match *block {
+        Block::Pt1 { .. } => two(state, last),
+        Block::Dt1 { second: true, x, .. } => three(state, part_on(x, Role::Value), last),
+        Block::Dt1 { second: false, .. } => three(state, last, part_on(wire, Role::X2)),
         _ => none(),
     }
 }
 
-fn difference_reads(second: bool, wire: WireNo, x: WireNo, role: Role) -> Few<Part>
-    ensures { result ≡ difference_parts second wire.0 x.0 role }
+/// Of what a block keeps of earlier rows.
+fn kept_reads(wire: WireNo, block: &Block, role: Role) -> Few<Part>
+    ensures { result ≡ parts_in (kept_rule_of wire.0 block.now role).reads }
 {
-    match role {
-        Role::Y => {
-            let state = part_on(wire, Role::Y);
-            let older = part_on(wire, Role::X1);
-            if second {
-                three(state, part_on(x, Role::Value), older)
-            } else {
-                three(state, older, part_on(wire, Role::X2))
-            }
-        }
-        Role::X1 => one(part_on(x, Role::Value)),
-        Role::X2 if !second => one(part_on(wire, Role::X1)),
-        Role::Value => one(part_on(wire, Role::Y)),
-        _ => none(),
+    if keeps(block, role) {
+        one(kept_part(wire, block, role))
+    } else {
+        none()
     }
 }
 
-fn average_reads(wire: WireNo, x: WireNo, role: Role) -> Few<Part>
-    ensures { result ≡ average_parts wire.0 x.0 role }
+fn kept_part(wire: WireNo, block: &Block, role: Role) -> Part
+    ensures { result ≡ (kept_reading wire.0 block.now role).part }
 {
-    let input = part_on(x, Role::Value);
     match role {
-        Role::W => one(input),
-        Role::Value => two(input, part_on(wire, Role::W)),
-        _ => none(),
+        Role::X2 => part_on(wire, Role::X1),
+        _ => part_on(kept_wire(wire, block), Role::Value),
+    }
+}
+
+/// Whether a block has a part of a role.
+pub(crate) fn keeps(block: &Block, role: Role) -> bool
+    ensures { result ≡ has_role role (block_roles block.now) }
+{
+    block.roles().iter().any(|other| same_role(*other, role))
+}
+
+/// The input of a block that keeps inputs, else the block's own wire.
+pub(crate) fn kept_wire(wire: WireNo, block: &Block) -> WireNo
+    ensures { result.0 ≡ kept_wire wire.0 block.now }
+{
+    match *block {
+        Block::Pt1 { x, .. } | Block::Dt1 { x, .. } | Block::Average { x, .. } => x,
+        _ => wire,
     }
 }
 
 /// The values of the wires that a block reads.
-fn values_read(block: &Block, role: Role) -> Few<Part>
-    ensures { result ≡ value_parts block.now role }
+fn arguments_read(block: &Block) -> Few<Part>
+    ensures { result ≡ map (λ w. value_part w.0) (form_of block.now).wires }
 {
+    let form = form_of(*block);
     let mut parts = none();
-    if same_role(role, Role::Value) {
-        let form = form_of(*block);
-        for wire in form.wires.as_slice() {
-            parts.push(part_on(*wire, Role::Value));
-        }
+    for wire in form.wires.as_slice() {
+        parts.push(part_on(*wire, Role::Value));
     }
     parts
 }

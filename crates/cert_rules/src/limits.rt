@@ -1,13 +1,14 @@
 // Which bounds are allowed for a part.
 
 ghost use Rattle.std.specs.Prelude.{◌≡◌, ◌<◌, ◌&&◌, length, int_le, int_lt};
-ghost use Rattle.net_model.specs.Wires.{argument_of, kind_greatest, kind_least, parts_of};
+ghost use Rattle.net_model.specs.Wires.{kind_greatest, kind_least, parts_of};
 ghost use Rattle.net_model.specs.Validity.{IsValid};
 ghost use Rattle.cert_rules.specs.Rules.{cap_of_role, greatest_of_part, holder, is_allowed, least_of_part};
 ghost use Rattle.cert_rules.specs.Acceptance.{part_at};
 
+use crate::arguments::kept_wire;
 use crate::lookups::{item_at, kind_at, part_numbered};
-use net_model::{Block, Item, Kind, Network, Part, PartNo, Role, WireNo};
+use net_model::{Item, Kind, Network, Part, PartNo, Role, WireNo};
 use part_rules::Bounds;
 
 /// The least and the greatest value of a part.
@@ -58,20 +59,9 @@ fn holder(net: &Network, part: Part) -> WireNo
     match part.role {
         Role::Y | Role::Value => part.wire,
         Role::X1 | Role::X2 | Role::W => match item_at(net, part.wire) {
-            Item::Block(block) => first_wire(&block),
+            Item::Block(block) => kept_wire(part.wire, &block),
             _ => part.wire,
         },
-    }
-}
-
-/// The first wire that a block reads.
-fn first_wire(block: &Block) -> WireNo
-    ensures { result.0 ≡ argument_of block.now 0 }
-{
-    match *block {
-        Block::Arith { x, .. } | Block::Scaled { x, .. } => x,
-        Block::Gain { x, .. } | Block::Average { x, .. } => x,
-        Block::Pt1 { x, .. } | Block::Dt1 { x, .. } => x,
     }
 }
 

@@ -2,7 +2,7 @@
 
 ghost use Rattle.std.specs.Prelude.{◌≡◌, ◌<◌, List, None, if◌then◌else◌, length};
 ghost use Rattle.part_rules.specs.declared.bounds.Bounds.{Bounds};
-ghost use Rattle.net_model.specs.Wires.{block_roles, has_role, parts_of, same_role, wire_at};
+ghost use Rattle.net_model.specs.Wires.{parts_of, same_role, wire_at};
 ghost use Rattle.net_model.specs.Validity.{IsValid};
 ghost use Rattle.part_rules.specs.Entries.{if_small};
 ghost use Rattle.part_rules.specs.PartRules.{given_by};
@@ -14,6 +14,7 @@ ghost use Rattle.cert_rules.specs.GivenBounds.{AreGiven, AreSized, if_sized};
 ghost use Rattle.cert_rules.specs.Rules.{allowed_of, block_rule, part_rule};
 ghost use Rattle.cert_rules.specs.Soundness.{AreAllowedFor};
 
+use crate::arguments::keeps;
 use crate::limits::allowed;
 use crate::lookups::{Given, given_to, item_at, part_numbered, point_at};
 use efx_rules::{average_bounds, difference_bounds, gain_bounds, lag_bounds};
@@ -82,9 +83,7 @@ fn block_bounds(net: &Network, part: Part, block: &Block, given: Given) -> Optio
     match part.role {
         Role::Value => value_bounds(net, part.wire, block, given),
         Role::Y => state_bounds(net, part.wire, block, given),
-        Role::X1 => kept_bounds(keeps_last(block), given),
-        Role::X2 => kept_bounds(keeps_second_last(block), given),
-        Role::W => kept_bounds(keeps_window(block), given),
+        Role::X1 | Role::X2 | Role::W => kept_bounds(keeps(block, part.role), given),
     }
 }
 
@@ -146,25 +145,4 @@ fn kept_bounds(keeps: bool, given: Given) -> Option<Bounds>
     ensures { result ≡ (if keeps then Some given.first else None) }
 {
     if keeps { Some(given.first) } else { None }
-}
-
-/// Whether a block keeps its input for the next row.
-fn keeps_last(block: &Block) -> bool
-    ensures { result ≡ has_role Role.X1 (block_roles block.now) }
-{
-    matches!(block, Block::Pt1 { .. } | Block::Dt1 { .. })
-}
-
-/// Whether it keeps it for one row more.
-fn keeps_second_last(block: &Block) -> bool
-    ensures { result ≡ has_role Role.X2 (block_roles block.now) }
-{
-    matches!(block, Block::Dt1 { second: false, .. })
-}
-
-/// Whether it keeps a window of inputs.
-fn keeps_window(block: &Block) -> bool
-    ensures { result ≡ has_role Role.W (block_roles block.now) }
-{
-    matches!(block, Block::Average { .. })
 }
