@@ -3,7 +3,10 @@ pub mod Readings
 pub mod EntryFacts
 pub mod Findings
 pub mod AcceptanceLaws
+pub mod PartValues
+pub mod FilterBlocks
 pub mod BlockRules
+pub mod BlockParts
 pub mod ReadParts
 pub mod RuleFacts
 pub mod RuleSoundness
