@@ -7,6 +7,8 @@ use Rattle.fx_core.specs.declared.word_type.Ty.TheVariants.{U8, S8, U16, S16, U3
 use Rattle.fx_core.specs.Types.{least_of, greatest_of}
 use Rattle.net_model.specs.declared.wires.Kind.{Kind}
 use Rattle.net_model.specs.declared.wires.Kind.TheVariants.{Num, Truth}
+use Rattle.net_model.specs.declared.wires.Role.{Role}
+use Rattle.net_model.specs.declared.wires.Role.TheVariants.{Y, X1, X2, W, Value}
 use Rattle.net_model.specs.declared.wires.Part.{Part}
 use Rattle.net_model.specs.Wires.{NetData, wire_at, kind_least, kind_greatest, point_of, parts_of}
 use Rattle.net_model.specs.Validity.{IsValid}
@@ -16,9 +18,9 @@ use Rattle.part_rules.specs.declared.bounds.Bounds.{Bounds}
 use Rattle.part_rules.specs.Entries.{IsSmall}
 use Rattle.part_rules.specs.PartRules.{IsProper}
 use Rattle.part_rules.specs.Within.{no_bounds}
-use Rattle.cert_rules.specs.Rules.{is_allowed, is_between_ends, least_of_part, greatest_of_part, cap_of_role}
+use Rattle.cert_rules.specs.Rules.{is_allowed, is_between_ends, kind_of_part, least_by_role, greatest_by_role, least_of_part, greatest_of_part, cap_of_role}
 use Rattle.cert_rules.specs.Acceptance.{is_allowed_entry, part_at}
-use Rattle.cert_rules.specs.GivenBounds.{value_part}
+use Rattle.cert_rules.specs.GivenBounds.{IsSized}
 
 -- ---- the ends of kinds are small
 
@@ -85,17 +87,25 @@ allowed_entry net part b h =
       proper = record { ordered = int_le-true b.lo b.hi t.1; positive = int_le-true (pos 0) b.err t.2 };
     }
 
--- allowed bounds of a value whose range isn't empty and whose error isn't negative are small
-pub small_value : (net : NetData) (wire : ℕ) (b : Bounds) → AreBetween net (value_part wire) b → IsProper b → IsSmall b
-small_value net wire b between proper =
-    let kind = (wire_at net.wires wire).kind in
-    record {
-      low = int_le_trans _ _ _ (kind_least-low kind) between.low;
-      ordered = proper.ordered;
-      high = int_le_trans _ _ _ between.high (kind_greatest-high kind);
-      positive = proper.positive;
-      near = int_lt-true b.err (pos (2 ^ 40)) between.near;
-    }
+small_by : (kind : Kind) (b : Bounds) → kind_least kind ≤ℤ b.lo → b.hi ≤ℤ kind_greatest kind → int_lt b.err (pos (2 ^ 40)) ≡ true → IsProper b → IsSmall b
+small_by kind b low high near proper = record {
+  low = int_le_trans _ _ _ (kind_least-low kind) low;
+  ordered = proper.ordered;
+  high = int_le_trans _ _ _ high (kind_greatest-high kind);
+  positive = proper.positive;
+  near = int_lt-true b.err (pos (2 ^ 40)) near;
+}
+
+-- allowed bounds of a part whose range isn't empty and whose error isn't negative are small enough for its role
+sized_by : (role : Role) (kind : Kind) (b : Bounds) → least_by_role kind role ≤ℤ b.lo → b.hi ≤ℤ greatest_by_role kind role → int_lt b.err (cap_of_role role) ≡ true → IsProper b → IsSized role b
+sized_by Y kind b low high near proper = record { low = low; ordered = proper.ordered; high = high; positive = proper.positive; near = int_lt-true b.err (pos (2 ^ 56)) near }
+sized_by Value kind b low high near proper = small_by kind b low high near proper
+sized_by X1 kind b low high near proper = small_by kind b low high near proper
+sized_by X2 kind b low high near proper = small_by kind b low high near proper
+sized_by W kind b low high near proper = small_by kind b low high near proper
+
+pub sized_entry : (net : NetData) (part : Part) (b : Bounds) → AreBetween net part b → IsProper b → IsSized part.role b
+sized_entry net part b between proper = sized_by part.role (kind_of_part net part) b between.low between.high between.near proper
 
 -- no bounds are small
 pub small_none : IsSmall no_bounds

@@ -10,7 +10,7 @@ ghost use Rattle.efx_rules.specs.StateEntries.{if_state};
 ghost use Rattle.cert_rules.specs.Acceptance.{part_at};
 ghost use Rattle.cert_rules.specs.Arguments.{rule_by};
 ghost use Rattle.cert_rules.specs.Certificates.{entry_of};
-ghost use Rattle.cert_rules.specs.GivenBounds.{AreGiven, AreSized, if_sized};
+ghost use Rattle.cert_rules.specs.GivenBounds.{AreAllowedReads, AreGiven, AreSized, if_sized};
 ghost use Rattle.cert_rules.specs.Rules.{allowed_of, block_rule, part_rule};
 ghost use Rattle.cert_rules.specs.Soundness.{AreAllowedFor};
 
@@ -43,7 +43,17 @@ fn proposed(net: &Network, part: PartNo, all: &[Bounds]) -> Option<Bounds>
     ensures { let p = part_at net.now part.0 in
         allowed_of net.now p result ≡ allowed_of net.now p (given_by (part_rule net.now p) (entry_of net.now all.now)) }
 {
-    let part = part_numbered(net, part);
+    part_bounds(net, part_numbered(net, part), all)
+}
+
+/// The same of a part as it is.
+fn part_bounds(net: &Network, part: Part, all: &[Bounds]) -> Option<Bounds>
+    requires valid { IsValid net.now }
+    requires there { part.wire.0 < length net.now.wires }
+    requires complete { length all.now ≡ length (parts_of net.now.wires) }
+    requires allowed { AreAllowedReads net.now (part_rule net.now part).reads all.now }
+    ensures { allowed_of net.now part result ≡ allowed_of net.now part (given_by (part_rule net.now part) (entry_of net.now all.now)) }
+{
     let given = given_to(net, part, all);
     match item_at(net, part.wire) {
         Item::Input { lo, hi } => value_only(part.role, Bounds { lo, hi, err: 0 }),
