@@ -179,7 +179,6 @@ block_back (Scaled op v x y) repeats adds =
     let sorts = length (signature_of (NamedScaled op) v).sorts in
     let wires = x ∷ y ∷ [] in
     ap₂ (λ a b. Scaled op v a b) (wire_back wires sorts 0 x repeats (omega arith)) (wire_back wires sorts 1 x repeats (omega arith))
-
 block_back (Gain xty ty x k) repeats adds = refl
 block_back (Average xty ty x n) repeats adds = refl
 block_back (Pt1 xty ty x teq k) repeats adds = refl

@@ -174,7 +174,7 @@ room_for_all wires =
     ∙ ap₂ (λ s t. s && t)
     (within_limit wires (λ i w. nat_lt (length (take i wires)) 512) (λ i. i) 512 (λ i. omega arith) (count_room wires) (length wires) 0 (zero-add (length wires)) (omega arith))
     (within_limit wires (λ i w. nat_le (window_sum (take i wires) + window_of w.item) 65536) (λ i. window_sum (take i wires)) 65536 (rows_grow wires) (λ i lt. ap (λ n. nat_le n 65536) (sym (rows_next wires i lt))) (length wires) 0 (zero-add (length wires)) (omega arith)
-      ∙ ap (λ ws. nat_le (window_sum ws) 65536) (take_all (length wires) wires (omega arith)))
+    ∙ ap (λ ws. nat_le (window_sum ws) 65536) (take_all (length wires) wires (omega arith)))
 
 -- the wires are good where they are in their places and there is room for all
 good_places : (net : NetData) → good_from (good_place net) 0 net.wires ≡ (are_good_from net 0 net.wires && (nat_le (length net.wires) 512 && nat_le (window_sum net.wires) 65536))

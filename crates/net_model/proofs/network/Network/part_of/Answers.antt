@@ -9,8 +9,9 @@ returns-in_err-place c =
     c.from_residual.ensures ∙ number_missing c.args.self.now c.args.w.0 c.args.role (ap (position (λ r. same_role r c.args.role)) (sym c.roles.ensures.roles) ∙ sym c.place_of_role.ensures.place ∙ c.in_err-place.was)
 
 pub overflow_add-result : goal.overflow_add-result
-overflow_add-result c =
-    number_fits c.args.self.now c.args.w.0 c.args.role _ _ c.roles.ensures.valid c.requires (ap (position (λ r. same_role r c.args.role)) (sym c.roles.ensures.roles) ∙ sym c.place_of_role.ensures.place ∙ c.in_ok-place.was) c.first_part.ensures
+overflow_add-result c = record {
+  fits = number_fits c.args.self.now c.args.w.0 c.args.role _ _ c.roles.ensures.valid c.requires (ap (position (λ r. same_role r c.args.role)) (sym c.roles.ensures.roles) ∙ sym c.place_of_role.ensures.place ∙ c.in_ok-place.was) c.first_part.ensures;
+}
 
 pub returns : goal.returns
 returns c =
