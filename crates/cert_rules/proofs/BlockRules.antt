@@ -46,7 +46,7 @@ use Rattle.mfx_rules.proofs.ScaledArguments.{form_bounds_of_two, form_divisor_of
 use Rattle.mfx_rules.specs.OperationRules.{arith_rule, arith_meaning, FitOperation, scaled_rule, scaled_meaning, FitForm}
 use Rattle.mfx_rules.proofs.KeptRules.{operations_keep_rules, forms_keep_rules}
 use Rattle.efx_rules.specs.KeptRules.{FitAll, gain_rule, gain_meaning, lag_rule, lag_meaning, difference_rule, difference_meaning, value_rule, value_meaning, average_rule}
-use Rattle.efx_rules.proofs.KeptFilters.{gains_keep, lags_keep, differences_keep, values_keep}
+use Rattle.efx_rules.proofs.KeptRules.{gains_keep_rules, lags_keep_rules, differences_keep_rules, values_keep_rules as state_values_keep_rules}
 use Rattle.cert_rules.specs.Rules.{argument_part, block_rule, copied_rule, kept_reading, kept_rule_of, least_of_part, listed, no_rule, part_on, state_rule_of, value_rule_of}
 use Rattle.cert_rules.specs.declared.lookups.Given.{Given}
 use Rattle.cert_rules.specs.GivenBounds.{AreGiven, parts_in, reading_at, value_part}
@@ -183,19 +183,19 @@ values_keep_rules net i (Scaled op v x y) valid h is =
     let points = points_of net (wire_at net.wires i).kind b in
     let rule = renamed (argument_part b) (scaled_rule op points) in
     keeps_where_fit rule (scaled_meaning op points) FitForm (FitReads net rule.reads) (λ given fit. tt) (renamed_keeps (argument_part b) (scaled_rule op points) (scaled_meaning op points) FitForm (forms_keep_rules op points))
-values_keep_rules net i (Gain xty ty x k) valid h is = filter_keeps net (listed (part_on x.0 Value ∷ [])) (gain_rule k) (gain_meaning k) (gains_keep k)
+values_keep_rules net i (Gain xty ty x k) valid h is = filter_keeps net (listed (part_on x.0 Value ∷ [])) (gain_rule k) (gain_meaning k) (gains_keep_rules k)
 values_keep_rules net i (Average xty ty x n) valid h is = filter_keeps net (listed (part_on x.0 Value ∷ part_on i W ∷ [])) average_rule mean_meaning means_keep
-values_keep_rules net i (Pt1 xty ty x teq k) valid h is = filter_keeps net (listed (part_on i Y ∷ [])) value_rule value_meaning values_keep
-values_keep_rules net i (Dt1 second xty ty x teq k) valid h is = filter_keeps net (listed (part_on i Y ∷ [])) value_rule value_meaning values_keep
+values_keep_rules net i (Pt1 xty ty x teq k) valid h is = filter_keeps net (listed (part_on i Y ∷ [])) value_rule value_meaning state_values_keep_rules
+values_keep_rules net i (Dt1 second xty ty x teq k) valid h is = filter_keeps net (listed (part_on i Y ∷ [])) value_rule value_meaning state_values_keep_rules
 
 states_keep_rules : (net : NetData) (i : ℕ) (b : Block) → KeepsRule (state_rule_of i b) (state_meaning_of b) (FitReads net (state_rule_of i b).reads)
 states_keep_rules net i (Arith op v x y z sh) = no_rule_keeps _ _
 states_keep_rules net i (Scaled op v x y) = no_rule_keeps _ _
 states_keep_rules net i (Gain xty ty x k) = no_rule_keeps _ _
 states_keep_rules net i (Average xty ty x n) = no_rule_keeps _ _
-states_keep_rules net i (Pt1 xty ty x teq k) = filter_keeps net (listed (part_on i Y ∷ part_on i X1 ∷ [])) (lag_rule teq k) (lag_meaning teq k) (lags_keep teq k)
-states_keep_rules net i (Dt1 true xty ty x teq k) = filter_keeps net (listed (part_on i Y ∷ part_on x.0 Value ∷ part_on i X1 ∷ [])) (difference_rule true teq k) (difference_meaning teq k) (differences_keep true teq k)
-states_keep_rules net i (Dt1 false xty ty x teq k) = filter_keeps net (listed (part_on i Y ∷ part_on i X1 ∷ part_on i X2 ∷ [])) (difference_rule false teq k) (difference_meaning teq k) (differences_keep false teq k)
+states_keep_rules net i (Pt1 xty ty x teq k) = filter_keeps net (listed (part_on i Y ∷ part_on i X1 ∷ [])) (lag_rule teq k) (lag_meaning teq k) (lags_keep_rules teq k)
+states_keep_rules net i (Dt1 true xty ty x teq k) = filter_keeps net (listed (part_on i Y ∷ part_on x.0 Value ∷ part_on i X1 ∷ [])) (difference_rule true teq k) (difference_meaning teq k) (differences_keep_rules true teq k)
+states_keep_rules net i (Dt1 false xty ty x teq k) = filter_keeps net (listed (part_on i Y ∷ part_on i X1 ∷ part_on i X2 ∷ [])) (difference_rule false teq k) (difference_meaning teq k) (differences_keep_rules false teq k)
 
 kept_keeps_rule : (net : NetData) (i : ℕ) (b : Block) (role : Role) (has : Bool) → has_role role (block_roles b) ≡ has → KeepsRule (kept_rule_of i b role) copied_meaning (FitReads net (kept_rule_of i b role).reads)
 kept_keeps_rule net i b role true is = rw is (copied_keeps (kept_reading i b role) (FitReads net (kept_reading i b role ∷ [])))

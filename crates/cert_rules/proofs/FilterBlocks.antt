@@ -22,7 +22,8 @@ use Rattle.part_rules.specs.Within.{IsWithin}
 use Rattle.part_rules.specs.PartRules.{KeepsRule, PartMeaning, bounds_at, bounds_read}
 use Rattle.efx_rules.specs.FilterRules.{average_bounds, difference_rounded, gain_rounded, lag_rounded, value_bounds, value_rounded}
 use Rattle.efx_rules.specs.KeptRules.{FitAll, average_rule, means}
-use Rattle.efx_rules.proofs.KeptFilters.{averages_are_monotone, averages_are_sound, differences_keep, gains_keep, lags_keep, values_keep}
+use Rattle.efx_rules.proofs.AverageLaws.{averages_are_sound}
+use Rattle.efx_rules.proofs.KeptRules.{averages_are_monotone, differences_keep_rules, gains_keep_rules, lags_keep_rules, values_keep_rules}
 use Rattle.cert_rules.specs.Rules.{count_held, held_wire, part_on, state_rule_of, value_rule_of}
 use Rattle.cert_rules.proofs.PartValues.{ReadsWithin, both_hold, three_hold, within_at}
 
@@ -62,7 +63,7 @@ lag_within net i xty ty x teq k known rows m e is within =
     let last : IsWithin (known (part_on i X1)) (m 1 x.0).value (e 1 x.0).value = last_read net i (Pt1 xty ty x teq k) (known (part_on i X1)) m e is (within 1 (omega arith) 0 (omega arith)) in
     let ms = two (m 1 i).state (m 1 x.0).value in
     let es = two (e 1 i).state (e 1 x.0).value in
-    ((lags_keep teq k).sound given ms es tt refl (both_hold (λ p. IsWithin (bounds_at given p) (ms p) (es p)) state last)).within
+    ((lags_keep_rules teq k).sound given ms es tt refl (both_hold (λ p. IsWithin (bounds_at given p) (ms p) (es p)) state last)).within
 
 -- a lag that the difference of this row's input and the one's before drives
 pub second_within : (net : NetData) (i : ℕ) (xty ty : Ty) (x : WireNo) (teq : ℕ) (k : ℤ) (known : Part → Bounds) (rows : List (List ℤ)) (m : ℕ → ℕ → Cell ℤ) (e : ℕ → ℕ → Cell Fraction) → let b = Dt1 true xty ty x teq k in let rule = state_rule_of i b in (wire_at net.wires i).item ≡ OfBlock b → ReadsWithin net rule.reads known m e → IsWithin (rule.bounds (bounds_read rule.reads known)) (equation_of machine net rows m i (OfBlock b)).state_unsaturated (equation_of exact net rows e i (OfBlock b)).state
@@ -74,7 +75,7 @@ second_within net i xty ty x teq k known rows m e is within =
     let last : IsWithin (known (part_on i X1)) (m 1 x.0).value (e 1 x.0).value = last_read net i (Dt1 true xty ty x teq k) (known (part_on i X1)) m e is (within 2 (omega arith) 0 (omega arith)) in
     let ms = three (m 1 i).state (m 0 x.0).value (m 1 x.0).value in
     let es = three (e 1 i).state (e 0 x.0).value (e 1 x.0).value in
-    ((differences_keep true teq k).sound given ms es tt refl (three_hold (λ p. IsWithin (bounds_at given p) (ms p) (es p)) state now last)).within
+    ((differences_keep_rules true teq k).sound given ms es tt refl (three_hold (λ p. IsWithin (bounds_at given p) (ms p) (es p)) state now last)).within
 
 -- one that the difference of the input of the row before and the one before that drives
 pub first_within : (net : NetData) (i : ℕ) (xty ty : Ty) (x : WireNo) (teq : ℕ) (k : ℤ) (known : Part → Bounds) (rows : List (List ℤ)) (m : ℕ → ℕ → Cell ℤ) (e : ℕ → ℕ → Cell Fraction) → let b = Dt1 false xty ty x teq k in let rule = state_rule_of i b in (wire_at net.wires i).item ≡ OfBlock b → ReadsWithin net rule.reads known m e → IsWithin (rule.bounds (bounds_read rule.reads known)) (equation_of machine net rows m i (OfBlock b)).state_unsaturated (equation_of exact net rows e i (OfBlock b)).state
@@ -87,7 +88,7 @@ first_within net i xty ty x teq k known rows m e is within =
     let older : IsWithin (known (part_on i X2)) (m 2 x.0).value (e 2 x.0).value = older_read net i b (known (part_on i X2)) m e is (within 2 (omega arith) 0 (omega arith)) in
     let ms = three (m 1 i).state (m 1 x.0).value (m 2 x.0).value in
     let es = three (e 1 i).state (e 1 x.0).value (e 2 x.0).value in
-    ((differences_keep false teq k).sound given ms es tt refl (three_hold (λ p. IsWithin (bounds_at given p) (ms p) (es p)) state last older)).within
+    ((differences_keep_rules false teq k).sound given ms es tt refl (three_hold (λ p. IsWithin (bounds_at given p) (ms p) (es p)) state last older)).within
 
 -- ---- values
 
@@ -95,13 +96,13 @@ pub gain_within : (net : NetData) (i : ℕ) (xty ty : Ty) (x : WireNo) (k : ℤ)
 unfolding equation_of machine machine_cell machine_state_of exact exact_cell state_formula formula quotient_of gain_rounded
 gain_within net i xty ty x k known rows m e within =
     let given = known (part_on x.0 Value) ∷ [] in
-    ((gains_keep k).sound given (λ p. (m 0 x.0).value) (λ p. (e 0 x.0).value) tt refl (λ p h. let here : p ≡ 0 = omega arith in subst (λ (n : ℕ). IsWithin (bounds_at given n) (m 0 x.0).value (e 0 x.0).value) (sym here) (within 0 (omega arith) 0 (omega arith)))).within
+    ((gains_keep_rules k).sound given (λ p. (m 0 x.0).value) (λ p. (e 0 x.0).value) tt refl (λ p h. let here : p ≡ 0 = omega arith in subst (λ (n : ℕ). IsWithin (bounds_at given n) (m 0 x.0).value (e 0 x.0).value) (sym here) (within 0 (omega arith) 0 (omega arith)))).within
 
 -- the value of a lag, from its new state
 value_from : (known : Bounds) (v : ℤ) (f : Fraction) → IsWithin known v f → IsWithin (value_bounds (bounds_at (known ∷ []))) (value_rounded (λ p. v)) (value_formula f)
 value_from known v f h =
     let given = known ∷ [] in
-    (values_keep.sound given (λ p. v) (λ p. f) tt refl (λ p h'. let here : p ≡ 0 = omega arith in subst (λ (n : ℕ). IsWithin (bounds_at given n) v f) (sym here) h)).within
+    (values_keep_rules.sound given (λ p. v) (λ p. f) tt refl (λ p h'. let here : p ≡ 0 = omega arith in subst (λ (n : ℕ). IsWithin (bounds_at given n) v f) (sym here) h)).within
 
 pub lag_value_within : (net : NetData) (i : ℕ) (xty ty : Ty) (x : WireNo) (teq : ℕ) (k : ℤ) (known : Part → Bounds) (rows : List (List ℤ)) (m : ℕ → ℕ → Cell ℤ) (e : ℕ → ℕ → Cell Fraction) → let b = Pt1 xty ty x teq k in let rule = value_rule_of net i b in (m 0 i).state ≡ (equation_of machine net rows m i (OfBlock b)).state → (e 0 i).state ≡ (equation_of exact net rows e i (OfBlock b)).state → ReadsWithin net rule.reads known m e → IsWithin (rule.bounds (bounds_read rule.reads known)) (equation_of machine net rows m i (OfBlock b)).value_unsaturated (equation_of exact net rows e i (OfBlock b)).value
 unfolding equation_of machine machine_cell machine_state_of exact exact_cell state_formula formula quotient_of value_rounded
