@@ -155,16 +155,16 @@ record IsKeptPart (net : NetData) (i : ℕ) (b : Block) (role : Role) (rows : Li
   within : IsWithin bounds (value_of net (part_on i role) m 0) (value_of net (part_on i role) e 0)
 
 kept_keeps : (net : NetData) (i : ℕ) (b : Block) (role : Role) (known : Part → Bounds) (rows : List (List ℤ)) (m : ℕ → ℕ → Cell ℤ) (e : ℕ → ℕ → Cell Fraction) (bounds : Bounds) (has : Bool) → has_role role (block_roles b) ≡ has → (wire_at net.wires i).item ≡ OfBlock b → has_role role (Value ∷ Y ∷ []) ≡ false → has_role role (Value ∷ []) ≡ false → ReadsWithin net (kept_rule_of i b role).reads known m e → given_by (kept_rule_of i b role) known ≡ Some bounds → IsKeptPart net i b role rows m e bounds
-kept_keeps net i b role known rows m e bounds true has is none no within given =
+kept_keeps net i b role known rows m e bounds true has is none single within given =
     let read : ReadsWithin net (kept_reading i b role ∷ []) known m e = rw has at within in
     let gives : given_by (copied_rule (kept_reading i b role)) known ≡ Some bounds = rw has at given in
     let r = is_ruled (copied_rule (kept_reading i b role)) known bounds gives in
     record {
-      machine_divides = keeper_divides net (wire_at net.wires i).kind b role (read_values b (as_fractions (wire_values m))) no has;
-      exact_divides = keeper_divides net (wire_at net.wires i).kind b role (read_values b (wire_values e)) no has;
+      machine_divides = keeper_divides net (wire_at net.wires i).kind b role (read_values b (as_fractions (wire_values m))) single has;
+      exact_divides = keeper_divides net (wire_at net.wires i).kind b role (read_values b (wire_values e)) single has;
       within = rw r.same at (copied net i b role known m e is none read);
     }
-kept_keeps net i b role known rows m e bounds false has is none no within given =
+kept_keeps net i b role known rows m e bounds false has is none single within given =
     let gives : given_by no_rule known ≡ Some bounds = rw has at given in nothing_given bounds gives
 
 -- ---- each part of a block

@@ -172,7 +172,7 @@ copied_keeps reading Fit = record {
 filter_keeps : (net : NetData) (name : ℕ → Part) (rule : PartRule ℕ) (meaning : PartMeaning) → KeepsRule rule meaning FitAll → KeepsRule (renamed name rule) meaning (FitReads net (renamed name rule).reads)
 filter_keeps net name rule meaning keeps = keeps_where_fit (renamed name rule) meaning FitAll (FitReads net (renamed name rule).reads) (λ given fit. tt) (renamed_keeps name rule meaning FitAll keeps)
 
-values_keep_rules : (net : NetData) (i : ℕ) (b : Block) → IsValid net → i < length net.wires → (wire_at net.wires i).item ≡ OfBlock b → KeepsRule (value_rule_of net i b) (value_meaning_of net i b) (FitReads net (value_rule_of net i b).reads)
+pub values_keep_rules : (net : NetData) (i : ℕ) (b : Block) → IsValid net → i < length net.wires → (wire_at net.wires i).item ≡ OfBlock b → KeepsRule (value_rule_of net i b) (value_meaning_of net i b) (FitReads net (value_rule_of net i b).reads)
 unfolding formula quotient_of
 values_keep_rules net i (Arith op v x y z sh) valid h is =
     let b = Arith op v x y z sh in

@@ -139,6 +139,6 @@ rules_are_sound net valid entries p h allowed rows m e keeps later state given b
     let number = has_number net reading.part (is_orderly net part valid there q l).there in
     let read = subst (λ t. IsTrue (is_read reads t (rows_ago reading))) (sym number.there) (read_there reads q l) in
     subst (λ (t : Part). IsPartHeld net entries t (back (rows_ago reading) m) (back (rows_ago reading) e)) number.there (given number.number (rows_ago reading) number.within read) in
-    let told = record { input = keeps; under_way = later; state = state; fit = fit; within = within } in
+    let told : IsTold net part.wire.0 (wire_at net.wires part.wire.0).item reads (entry_of net entries) rows m e = record { input = keeps; under_way = later; state = state; fit = fit; within = within } in
     let k = item_keeps net part.wire.0 part.role (wire_at net.wires part.wire.0).item (entry_of net entries) rows m e bounds valid there.wire refl told (rule_gift net part (entry_of net entries) bounds rules).is in
     record { machine_divides = k.machine_divides; exact_divides = k.exact_divides; within = k.within }

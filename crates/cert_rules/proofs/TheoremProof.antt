@@ -285,9 +285,9 @@ starting net entries part m e entry starts is_m is_e n few =
 left_over : (rows : List (List ℤ)) (j : ℕ) → is_first (drop j rows) ≡ false → j + 1 < length rows
 left_over rows j h = let long = leb-false (length (drop j rows)) 1 h in omega (arith, long, length-drop j rows)
 
-rows_hold : (net : NetData) (entries : List Bounds) → IsValid net → Accepts net entries → (rows : List (List ℤ)) (tables : Tables) → Keeps net rows → AreRuns net rows tables → (n j : ℕ) → length rows ≤ j + n → j < length rows → (part : Part) → IsPart net part → PartHolds net entries part (cells_from machine tables.in_machine j) (cells_from exact tables.exactly j)
-rows_hold net entries valid accepts rows tables keeps runs zero j enough h part is = absurd (omega arith)
-rows_hold net entries valid accepts rows tables keeps runs (suc n) j enough h part is =
+-- one more row, below the older ones
+next_holds : (net : NetData) (entries : List Bounds) → IsValid net → Accepts net entries → (rows : List (List ℤ)) (tables : Tables) → Keeps net rows → AreRuns net rows tables → (j : ℕ) → j < length rows → (j + 1 < length rows → (part : Part) → IsPart net part → PartHolds net entries part (cells_from machine tables.in_machine (j + 1)) (cells_from exact tables.exactly (j + 1))) → (part : Part) → IsPart net part → PartHolds net entries part (cells_from machine tables.in_machine j) (cells_from exact tables.exactly j)
+next_holds net entries valid accepts rows tables keeps runs j h older part is =
     row_holds net entries (drop j rows) (cells_from machine tables.in_machine j) (cells_from exact tables.exactly j) valid accepts
     (λ i k. subst (λ row. KeepsRange (wire_at net.wires i).item (get_or row (input_place net.wires i) (pos 0))) (sym (newest_row rows j)) ((keeps j h).ranges i k))
     (record {
@@ -304,7 +304,7 @@ rows_hold net entries valid accepts rows tables keeps runs (suc n) j enough h pa
     moved other held = rw (back_one machine tables.in_machine j, back_one exact tables.exactly j) held
 
     older_held : (other : Part) → IsPart net other → j + 1 < length rows → IsPartHeld net entries other (back 1 (cells_from machine tables.in_machine j)) (back 1 (cells_from exact tables.exactly j))
-    older_held other o more = moved other (rows_hold net entries valid accepts rows tables keeps runs n (j + 1) (omega arith) more other o).held
+    older_held other o more = moved other (older more other o).held
 
     zeros_held : (other : Part) → IsPart net other → start_of (wire_at net.wires other.wire.0).item other.role ≡ Some (pos 0) → (j + 1 < length rows) ⊎ (length rows ≤ j + 1) → IsPartHeld net entries other (back 1 (cells_from machine tables.in_machine j)) (back 1 (cells_from exact tables.exactly j))
     zeros_held other o starts (inl more) = older_held other o more
@@ -312,6 +312,11 @@ rows_hold net entries valid accepts rows tables keeps runs (suc n) j enough h pa
         moved other (starting net entries other _ _ (entry_holds net entries other accepts o) starts
         (λ ago w. before_first machine tables.in_machine (j + 1 + ago) w (omega (arith, runs.in_machine.long, last)))
         (λ ago w. before_first exact tables.exactly (j + 1 + ago) w (omega (arith, runs.exactly.long, last))))
+
+rows_hold : (net : NetData) (entries : List Bounds) → IsValid net → Accepts net entries → (rows : List (List ℤ)) (tables : Tables) → Keeps net rows → AreRuns net rows tables → (n j : ℕ) → length rows ≤ j + n → j < length rows → (part : Part) → IsPart net part → PartHolds net entries part (cells_from machine tables.in_machine j) (cells_from exact tables.exactly j)
+rows_hold net entries valid accepts rows tables keeps runs zero j enough h part is = absurd (omega arith)
+rows_hold net entries valid accepts rows tables keeps runs (suc n) j enough h part is =
+    next_holds net entries valid accepts rows tables keeps runs j h (λ more. rows_hold net entries valid accepts rows tables keeps runs n (j + 1) (omega arith) more) part is
 
 all_rows : (net : NetData) (entries : List Bounds) → IsValid net → Accepts net entries → (rows : List (List ℤ)) (tables : Tables) → Keeps net rows → AreRuns net rows tables → (j : ℕ) → j < length rows → (part : Part) → IsPart net part → PartHolds net entries part (cells_from machine tables.in_machine j) (cells_from exact tables.exactly j)
 all_rows net entries valid accepts rows tables keeps runs j h part is = rows_hold net entries valid accepts rows tables keeps runs (length rows) j (omega arith) h part is
