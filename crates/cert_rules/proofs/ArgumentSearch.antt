@@ -18,7 +18,7 @@ use Rattle.cert_rules.specs.Acceptance.{part_at}
 use Rattle.cert_rules.specs.Arguments.{is_read_ever, passing, reads_at}
 use Rattle.cert_rules.specs.GivenBounds.{value_part}
 use Rattle.cert_rules.proofs.BlockRules.{block_reads}
-use Rattle.cert_rules.proofs.Findings.{count_fits}
+use Rattle.cert_rules.proofs.EntryFacts.{count_fits}
 
 -- ---- one step of the search
 

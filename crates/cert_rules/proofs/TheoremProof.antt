@@ -33,7 +33,7 @@ use Rattle.cert_rules.specs.Soundness.{IsGiven, KeepsInput, raw_by}
 use Rattle.cert_rules.specs.Theorem.{CertificatesHold}
 use Rattle.cert_rules.proofs.AcceptedEntries.{EntryHolds, entry_holds, within_wider}
 use Rattle.cert_rules.proofs.BlockRules.{IsKept, block_kept}
-use Rattle.cert_rules.proofs.Findings.{allowed_for}
+use Rattle.cert_rules.proofs.EntryFacts.{allowed_for}
 use Rattle.cert_rules.proofs.Readings.{has_number, numbered, reading_of}
 use Rattle.cert_rules.proofs.ReadParts.{IsOrderly, is_orderly, rank}
 use Rattle.cert_rules.proofs.RuleSoundness.{rules_are_sound}
