@@ -12,7 +12,7 @@ use Rattle.cert_rules.specs.Rules.{item_rule, part_rule}
 use Rattle.cert_rules.specs.Acceptance.{part_at}
 use Rattle.cert_rules.specs.Arguments.{is_read_ever, passing, reads_at, reads_part}
 use Rattle.cert_rules.specs.GivenBounds.{parts_in}
-use Rattle.cert_rules.proofs.Findings.{count_fits}
+use Rattle.cert_rules.proofs.EntryFacts.{count_fits}
 
 -- ---- one step of the search
 

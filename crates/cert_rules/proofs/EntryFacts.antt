@@ -1,5 +1,5 @@
 -- What the tests of an entry say, and how small allowed entries of values are.
-use Rattle.std.proofs.Common.{◌≡◌, ℕ, ◌<◌, ◌≤◌, ◌^◌, Bool, true, ◌&&◌, length, ℤ, pos, negsuc, ◌≤ℤ◌, int_le, int_lt, sym, ap, ◌∙◌}
+use Rattle.std.proofs.Common.{◌≡◌, ℕ, ◌<◌, ◌≤◌, ◌^◌, Bool, true, ◌&&◌, length, List, ℤ, pos, negsuc, ◌≤ℤ◌, int_le, int_lt, sym, ap, ◌∙◌, Fits, w32, Fits-le, Fits-lit}
 use Rattle.std.proofs.lemmas.Bool.{and_parts}
 use Rattle.fx_fraction.proofs.WholeNumbers.{int_le-true, int_lt-true, int_le_trans}
 use Rattle.fx_core.specs.declared.word_type.Ty.{Ty}
@@ -13,14 +13,15 @@ use Rattle.net_model.specs.declared.wires.Part.{Part}
 use Rattle.net_model.specs.Wires.{NetData, wire_at, kind_least, kind_greatest, point_of, parts_of}
 use Rattle.net_model.specs.Validity.{IsValid}
 use Rattle.net_model.proofs.ValidityFacts.{point_of-valid}
-use Rattle.net_model.proofs.PartPlaces.{part_there}
+use Rattle.net_model.proofs.PartPlaces.{few_parts, part_there}
 use Rattle.part_rules.specs.declared.bounds.Bounds.{Bounds}
 use Rattle.part_rules.specs.Entries.{IsSmall}
 use Rattle.part_rules.specs.PartRules.{IsProper}
 use Rattle.part_rules.specs.Within.{no_bounds}
 use Rattle.cert_rules.specs.Rules.{is_allowed, is_between_ends, kind_of_part, least_by_role, greatest_by_role, least_of_part, greatest_of_part, cap_of_role}
-use Rattle.cert_rules.specs.Acceptance.{is_allowed_entry, part_at}
+use Rattle.cert_rules.specs.Acceptance.{AreAllowed, is_allowed_entry, part_at}
 use Rattle.cert_rules.specs.GivenBounds.{IsSized}
+use Rattle.cert_rules.specs.Soundness.{AreAllowedFor}
 
 -- ---- the ends of kinds are small
 
@@ -121,3 +122,13 @@ part_at-wire net k h = (part_there net k h).wire
 pub point-valid : (net : NetData) (i : ℕ) (kind : Kind) (point : ℕ) (ty : Ty) → IsValid net → i < length net.wires → kind ≡ (wire_at net.wires i).kind → kind ≡ Num ty point → point ≤ 15
 point-valid net i kind point ty valid h is case =
     rw (ap point_of (sym case ∙ is)) (point_of-valid net i valid h)
+
+-- ---- all parts
+
+-- the number of parts is a word
+pub count_fits : (net : NetData) → IsValid net → Fits w32 (length (parts_of net.wires))
+count_fits net valid = Fits-le (few_parts net valid) (Fits-lit tt)
+
+-- where each entry is allowed those that a rule reads are
+pub allowed_for : (net : NetData) (entries : List Bounds) (p : ℕ) → AreAllowed net entries → AreAllowedFor net entries p
+allowed_for net entries p allowed k h read = allowed k h

@@ -1,7 +1,6 @@
 pub mod Examples
 pub mod Readings
 pub mod EntryFacts
-pub mod Findings
 pub mod AcceptanceLaws
 pub mod PartValues
 pub mod FilterBlocks

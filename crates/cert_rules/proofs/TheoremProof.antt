@@ -34,7 +34,7 @@ use Rattle.cert_rules.specs.Soundness.{IsGiven, IsPartHeld, IsUnderWay, KeepsInp
 use Rattle.cert_rules.specs.Theorem.{CertificatesHold}
 use Rattle.cert_rules.proofs.AcceptedEntries.{EntryHolds, entry_holds, within_wider}
 use Rattle.cert_rules.proofs.BlockRules.{IsKept, IsStateNumber, block_kept, block_state, zero_is_state}
-use Rattle.cert_rules.proofs.Findings.{allowed_for}
+use Rattle.cert_rules.proofs.EntryFacts.{allowed_for}
 use Rattle.cert_rules.proofs.PartValues.{within_at}
 use Rattle.cert_rules.proofs.Readings.{has_number, numbered, reading_of}
 use Rattle.cert_rules.proofs.ReadParts.{IsOrderly, is_orderly, rank}

@@ -1,5 +1,5 @@
-use Rattle.cert_rules.proofs.Findings.{allowed_not, allowed_when}
-use Rattle.cert_rules.proofs.checking.is_allowed_at.Goals as goal
+use Rattle.cert_checker.proofs.Findings.{allowed_not, allowed_when}
+use Rattle.cert_checker.proofs.checking.is_allowed_at.Goals as goal
 
 pub returns-then-allowed : goal.returns-then-allowed
 returns-then-allowed c =

@@ -1,6 +1,6 @@
 use Rattle.std.proofs.Common.{◌∙◌, sym, arith}
-use Rattle.cert_rules.proofs.Findings.{first_failing-end, first_failing-failed, first_failing-passed, allowed_from_none}
-use Rattle.cert_rules.proofs.checking.first_disallowed.Goals as goal
+use Rattle.cert_checker.proofs.Findings.{first_failing-end, first_failing-failed, first_failing-passed, allowed_from_none}
+use Rattle.cert_checker.proofs.checking.first_disallowed.Goals as goal
 
 pub returns-then-not-is_allowed_at-clause-first : goal.returns-then-not-is_allowed_at-clause-first
 returns-then-not-is_allowed_at-clause-first c =

@@ -1,6 +1,6 @@
 use Rattle.std.proofs.Common.{◌∙◌, sym, arith}
-use Rattle.cert_rules.proofs.Findings.{first_failing-end, first_failing-failed, first_failing-passed}
-use Rattle.cert_rules.proofs.checking.first_narrow.Goals as goal
+use Rattle.cert_checker.proofs.Findings.{first_failing-end, first_failing-failed, first_failing-passed}
+use Rattle.cert_checker.proofs.checking.first_narrow.Goals as goal
 
 pub returns-then-not-is_inductive : goal.returns-then-not-is_inductive
 returns-then-not-is_inductive c =

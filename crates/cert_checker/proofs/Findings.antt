@@ -1,19 +1,12 @@
 -- How the first part that fails a test is found, one part at a time.
-use Rattle.std.proofs.Common.{◌≡◌, ℕ, zero, suc, ◌+◌, ◌-◌, ◌<◌, ◌≤◌, Bool, true, false, cond, ◌&&◌, List, length, ℤ, pos, int_le, refl, sym, ap, ◌∙◌, arith, Option, Some, None, option_map, eq-or-lt_of_le, inl, inr, Fits, w32, Fits-le, Fits-lit, FitsSigned, w64}
+use Rattle.std.proofs.Common.{◌≡◌, ℕ, zero, suc, ◌+◌, ◌-◌, ◌<◌, ◌≤◌, Bool, true, false, cond, ◌&&◌, List, length, ℤ, pos, int_le, refl, sym, ap, ◌∙◌, arith, Option, Some, None, option_map, eq-or-lt_of_le, inl, inr, FitsSigned, w64}
 use Rattle.std.proofs.lemmas.Int.{to_z-of_z}
 use Rattle.net_model.specs.declared.wires.PartNo.{PartNo}
-use Rattle.net_model.specs.declared.wires.Item.{Item}
-use Rattle.net_model.specs.declared.wires.Item.TheVariants.{Input, Const, Block as OfBlock}
-use Rattle.net_model.specs.declared.wires.Role.{Role}
-use Rattle.net_model.specs.declared.wires.Role.TheVariants.{Value}
 use Rattle.net_model.specs.Wires.{NetData, wire_at, parts_of}
-use Rattle.net_model.specs.Validity.{IsValid}
-use Rattle.net_model.proofs.PartPlaces.{few_parts}
 use Rattle.fx_core.proofs.WordSteps.{word_of}
 use Rattle.part_rules.specs.declared.bounds.Bounds.{Bounds}
 use Rattle.cert_rules.specs.Certificates.{entry_of}
 use Rattle.cert_rules.specs.Rules.{is_allowed, rule_of}
-use Rattle.cert_rules.specs.Soundness.{AreAllowedFor}
 use Rattle.cert_rules.specs.Acceptance.{AreAllowed, entry_at, first_failing, first_rejected, is_inductive_at, is_allowed_at, lies_inside, or_later, part_at, start_of, starts_inside}
 
 -- ---- one step of the search
@@ -75,27 +68,6 @@ unfolding first_rejected
 rejected_later net entries found later e is f =
     f ∙ ap (λ t. or_later t (first_failing (is_inductive_at net entries) 0 (length (parts_of net.wires)))) (sym (ap (option_map (λ (p : PartNo). p.0)) is) ∙ e)
 
--- ---- the second test
-
-none_starts : (item : Item) (role : Role) → start_of item role ≡ None
-none_starts (Input lo hi) Value = refl
-none_starts (Const value) Value = refl
-none_starts (OfBlock b) Value = refl
-
--- a part is inductive where its rule's bounds lie within its entry
-pub inductive_is : (net : NetData) (entries : List Bounds) (k : ℕ) → is_inductive_at net entries k ≡ lies_inside (rule_of net (part_at net k) (entry_of net entries)) (entry_at entries k)
-unfolding is_inductive_at
-inductive_is net entries k =
-    ap (λ s. starts_inside s (entry_at entries k) && lies_inside (rule_of net (part_at net k) (entry_of net entries)) (entry_at entries k)) (none_starts (wire_at net.wires (part_at net k).wire.0).item (part_at net k).role)
-
--- the number of parts is a word
-pub count_fits : (net : NetData) → IsValid net → Fits w32 (length (parts_of net.wires))
-count_fits net valid = Fits-le (few_parts net valid) (Fits-lit tt)
-
--- where each entry is allowed those that a rule reads are
-pub allowed_for : (net : NetData) (entries : List Bounds) (p : ℕ) → AreAllowed net entries → AreAllowedFor net entries p
-allowed_for net entries p allowed k h read = allowed k h
-
 -- ---- the two tests of a part
 
 pub allowed_when : (net : NetData) (entries : List Bounds) (k : ℕ) (t p : Bool) → t ≡ is_allowed net (part_at net k) (entry_at entries k) → t ≡ true → p ≡ (int_le (entry_at entries k).lo (entry_at entries k).hi && int_le (pos 0) (entry_at entries k).err) → p ≡ is_allowed_at net entries k
@@ -108,13 +80,29 @@ unfolding is_allowed_at
 allowed_not net entries k t e failed =
     failed ∙ ap (λ a. a && int_le (entry_at entries k).lo (entry_at entries k).hi && int_le (pos 0) (entry_at entries k).err) (sym failed ∙ e)
 
-pub inductive_some : (net : NetData) (entries : List Bounds) (k : ℕ) (found : Option Bounds) (given : Bounds) (t : Bool) → found ≡ rule_of net (part_at net k) (entry_of net entries) → found ≡ Some given → t ≡ (int_le (entry_at entries k).lo given.lo && int_le given.hi (entry_at entries k).hi && int_le given.err (entry_at entries k).err) → t ≡ is_inductive_at net entries k
-inductive_some net entries k found given t e is f =
-    f ∙ ap (λ r. lies_inside r (entry_at entries k)) (sym is ∙ e) ∙ sym (inductive_is net entries k)
+-- what a rule gives lies within an entry
+pub kept_some : (found given : Option Bounds) (entry b : Bounds) {t : Bool} → found ≡ given → found ≡ Some b → t ≡ (int_le entry.lo b.lo && int_le b.hi entry.hi && int_le b.err entry.err) → t ≡ lies_inside given entry
+kept_some found given entry b e is f = f ∙ ap (λ r. lies_inside r entry) (sym is ∙ e)
 
-pub inductive_none : (net : NetData) (entries : List Bounds) (k : ℕ) (found : Option Bounds) → found ≡ rule_of net (part_at net k) (entry_of net entries) → found ≡ None → false ≡ is_inductive_at net entries k
-inductive_none net entries k found e is =
-    ap (λ r. lies_inside r (entry_at entries k)) (sym is ∙ e) ∙ sym (inductive_is net entries k)
+-- nothing lies within one
+pub kept_none : {found given : Option Bounds} (entry : Bounds) → found ≡ given → found ≡ None → false ≡ lies_inside given entry
+kept_none entry e is = ap (λ r. lies_inside r entry) (sym is ∙ e)
+
+-- the value from which part number k starts
+abbrev start_at : NetData → ℕ → Option ℤ
+start_at net k = start_of (wire_at net.wires (part_at net k).wire.0).item (part_at net k).role
+
+-- a part that starts within its entry is inductive where its rule keeps to the entry
+pub inductive_when : (net : NetData) (entries : List Bounds) (k : ℕ) (start : Option ℤ) (t r : Bool) → start ≡ start_at net k → t ≡ starts_inside start (entry_at entries k) → t ≡ true → r ≡ lies_inside (rule_of net (part_at net k) (entry_of net entries)) (entry_at entries k) → r ≡ is_inductive_at net entries k
+unfolding is_inductive_at
+inductive_when net entries k start t r is e passed f =
+    f ∙ ap (λ a. a && lies_inside (rule_of net (part_at net k) (entry_of net entries)) (entry_at entries k)) (sym passed ∙ e ∙ ap (λ s. starts_inside s (entry_at entries k)) is)
+
+-- one that doesn't isn't
+pub inductive_not : (net : NetData) (entries : List Bounds) (k : ℕ) (start : Option ℤ) (t : Bool) → start ≡ start_at net k → t ≡ starts_inside start (entry_at entries k) → t ≡ false → t ≡ is_inductive_at net entries k
+unfolding is_inductive_at
+inductive_not net entries k start t is e failed =
+    failed ∙ ap (λ a. a && lies_inside (rule_of net (part_at net k) (entry_of net entries)) (entry_at entries k)) (sym failed ∙ e ∙ ap (λ s. starts_inside s (entry_at entries k)) is)
 
 -- ---- comparisons of words
 

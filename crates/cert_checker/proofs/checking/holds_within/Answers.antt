@@ -1,7 +1,7 @@
 use Rattle.std.proofs.Common.{◌∙◌, sym, rules}
-use Rattle.cert_rules.proofs.Findings.{all_three, not_both}
-use Rattle.cert_rules.proofs.checking.holds_within.Goals as goal
-use Rattle.cert_rules.proofs.checking.holds_within.Goals.{then-entry-given, else-entry-given}
+use Rattle.cert_checker.proofs.Findings.{all_three, not_both}
+use Rattle.cert_checker.proofs.checking.holds_within.Goals as goal
+use Rattle.cert_checker.proofs.checking.holds_within.Goals.{then-entry-given, else-entry-given}
 
 pub returns-then-given-entry : goal.returns-then-given-entry
 returns-then-given-entry c =
