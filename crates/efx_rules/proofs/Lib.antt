@@ -1,5 +1,7 @@
+pub mod WordSteps
 pub mod NearestErrors
 pub mod FilterValues
+pub mod FilterCornerHulls
 pub mod FilterSoundness
 pub mod FilterGrows
 pub mod AverageLaws

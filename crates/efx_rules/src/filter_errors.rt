@@ -7,6 +7,7 @@ ghost use Rattle.part_rules.specs.Entries.{IsSmall};
 ghost use Rattle.efx_rules.specs.FilterRules.{gain_error, half_count, is_whole_gain, lag_error};
 ghost use Rattle.efx_rules.specs.StateEntries.{IsState};
 
+use crate::filter_values::Lag;
 use fx_core::ceil_div;
 use part_rules::{Bounds, greater_error, sum_error};
 
@@ -38,37 +39,37 @@ fn is_whole_gain(k: i32) -> bool
 }
 
 /// The error of a lag's state.
-pub(crate) fn lag_error(teq: u32, k: i32, y: Bounds, x1: Bounds) -> i128
-    requires weight { teq ≤ 65536 }
+pub(crate) fn lag_error(lag: Lag, y: Bounds, x1: Bounds) -> i128
+    requires weight { lag.teq ≤ 65536 }
     requires state { IsState y }
     requires input { IsSmall x1 }
-    ensures { result ≡ lag_error teq k y.err x1.err }
+    ensures { result ≡ lag_error lag.teq lag.k y.err x1.err }
 {
-    driven_error(teq, k, y, i128::from(x1.err))
+    driven_error(lag, y, i128::from(x1.err))
 }
 
 /// The error of the state of a lag that a difference drives.
-pub(crate) fn difference_error(teq: u32, k: i32, y: Bounds, newer: Bounds, older: Bounds) -> i128
-    requires weight { teq ≤ 65536 }
+pub(crate) fn difference_error(lag: Lag, y: Bounds, newer: Bounds, older: Bounds) -> i128
+    requires weight { lag.teq ≤ 65536 }
     requires state { IsState y }
     requires newer { IsSmall newer }
     requires older { IsSmall older }
-    ensures { result ≡ lag_error teq k y.err (newer.err +ℤ older.err) }
+    ensures { result ≡ lag_error lag.teq lag.k y.err (newer.err +ℤ older.err) }
 {
-    driven_error(teq, k, y, sum_error(newer, older))
+    driven_error(lag, y, sum_error(newer, older))
 }
 
 // The error of a lag's state, from the error of what drives it.
 #[tactic(auto, unfolding(crate::specs::FilterRules::lag_error))]
-fn driven_error(teq: u32, k: i32, y: Bounds, drive: i128) -> i128
-    requires weight { teq ≤ 65536 }
+fn driven_error(lag: Lag, y: Bounds, drive: i128) -> i128
+    requires weight { lag.teq ≤ 65536 }
     requires state { IsState y }
     requires low { pos 0 ≤ℤ drive }
     requires high { drive <ℤ pos (2 ^ 41) }
-    ensures { result ≡ lag_error teq k y.err drive }
+    ensures { result ≡ lag_error lag.teq lag.k y.err drive }
 {
-    let drive_weight = i128::from(65536 - teq) * i128::from(k.unsigned_abs());
-    let old = weighed(i128::from(teq), i128::from(y.err));
+    let drive_weight = i128::from(65536 - lag.teq) * i128::from(lag.k.unsigned_abs());
+    let old = weighed(i128::from(lag.teq), i128::from(y.err));
     rounded_error(old + weighed(drive_weight, drive))
 }
 
