@@ -1,5 +1,6 @@
 pub mod WordSteps
 pub mod NearestErrors
+pub mod WholeGains
 pub mod FilterValues
 pub mod FilterCornerHulls
 pub mod FilterSoundness
