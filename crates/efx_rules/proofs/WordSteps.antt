@@ -1,6 +1,6 @@
 -- Numbers of filters in 128 bits: none goes past an end.
-use Rattle.std.proofs.Common.{◌≡◌, ℕ, ◌<◌, ◌≤◌, ◌^◌, lit<, ℤ, pos, ◌+ℤ◌, ◌-ℤ◌, ◌*ℤ◌, ◌≤ℤ◌, ◌<ℤ◌, ◌∙◌, ap, arith, FitsSigned}
-use Rattle.std.specs.Int.{w128}
+use Rattle.std.proofs.Common.{◌≡◌, ℕ, ◌<◌, ◌≤◌, ◌^◌, lit<, ℤ, pos, ◌+ℤ◌, ◌-ℤ◌, ◌*ℤ◌, ◌≤ℤ◌, ◌<ℤ◌, ◌∙◌, ap, arith, FitsSigned, to_z, of_z}
+use Rattle.std.specs.Int.{w64, w128}
 use Rattle.std.specs.Prelude.{unsigned_abs}
 use Rattle.std.proofs.lemmas.Int.{ints, to_z-of_z}
 use borrow.Author.Differences.{fits_in}
@@ -8,6 +8,8 @@ use Rattle.fx_core.specs.Rounding.{IsLeastQuotientAbove, least_quotient_above}
 use Rattle.fx_core.proofs.RoundingLaws.{least_quotient_above_bounds}
 use Rattle.fx_core.proofs.WordSteps.{IsStep, word_of}
 use Rattle.fx_core.proofs.WordSteps as steps
+use Rattle.part_rules.specs.declared.bounds.Bounds.{Bounds}
+use Rattle.efx_rules.specs.StateEntries.{IsState}
 
 -- the product of a number of at most 72 bits and a weight of at most 47
 pub weighed_step : (n f : ℤ) → unsigned_abs n < 2 ^ 72 → unsigned_abs f ≤ 2 ^ 47 → IsStep w128 (word_of w128 n *ℤ word_of w128 f) (n *ℤ f) (2 ^ 119)
@@ -41,3 +43,11 @@ rounded_words n q low high e =
       fits = rw plain_q fits;
       value = rw plain_q (to_z-of_z w128 _ fits ∙ ap (λ t. t +ℤ pos 32768) value);
     }
+
+-- ---- the error of a state, passed on
+
+pub state_error : (y : Bounds) → IsState y → to_z w64 (of_z w64 y.err) ≡ y.err
+state_error y state =
+    let low = state.positive in
+    let high = state.near in
+    to_z-of_z w64 y.err (fits_in w64 y.err (omega (arith, ints, low, high)))

@@ -1,6 +1,6 @@
 // The errors of filters, in units of 1/65536 of a raw count.
 
-ghost use Rattle.std.specs.Prelude.{◌≡◌, pos, ◌^◌, ◌≤◌, ◌≤ℤ◌, ◌<ℤ◌, ◌+ℤ◌, ◌*ℤ◌};
+ghost use Rattle.std.specs.Prelude.{◌≡◌, pos, ◌^◌, ◌≤◌, ◌≤ℤ◌, ◌<ℤ◌, ◌+ℤ◌, ◌-◌, ◌*ℤ◌, unsigned_abs};
 ghost use Rattle.std.specs.Int.{int_max};
 ghost use Rattle.fx_core.specs.Rounding.{least_quotient_above};
 ghost use Rattle.part_rules.specs.Entries.{IsSmall};
@@ -68,9 +68,19 @@ fn driven_error(lag: Lag, y: Bounds, drive: i128) -> i128
     requires high { drive <ℤ pos (2 ^ 41) }
     ensures { result ≡ lag_error lag.teq lag.k y.err drive }
 {
-    let drive_weight = i128::from(65536 - lag.teq) * i128::from(lag.k.unsigned_abs());
     let old = weighed(i128::from(lag.teq), i128::from(y.err));
-    rounded_error(old + weighed(drive_weight, drive))
+    let driven = weighed(drive_size(lag), drive);
+    rounded_error(both(old, driven))
+}
+
+// The absolute value of what that is multiplied by that drives a lag.
+fn drive_size(lag: Lag) -> i128
+    requires { lag.teq ≤ 65536 }
+    ensures value { result ≡ pos (65536 - lag.teq) *ℤ pos (unsigned_abs lag.k) }
+    ensures low { pos 0 ≤ℤ result }
+    ensures high { result ≤ℤ pos (2 ^ 47) }
+{
+    i128::from(65536 - lag.teq) * i128::from(lag.k.unsigned_abs())
 }
 
 /// The error of the value of a block with a state.
@@ -101,6 +111,19 @@ fn weighed(weight: i128, err: i128) -> i128
     ensures high { result <ℤ pos (2 ^ 103) }
 {
     weight * err
+}
+
+// Two weighed errors together.
+fn both(first: i128, second: i128) -> i128
+    requires first_low { pos 0 ≤ℤ first }
+    requires first_high { first <ℤ pos (2 ^ 103) }
+    requires second_low { pos 0 ≤ℤ second }
+    requires second_high { second <ℤ pos (2 ^ 103) }
+    ensures value { result ≡ first +ℤ second }
+    ensures low { pos 0 ≤ℤ result }
+    ensures high { result <ℤ pos (2 ^ 104) }
+{
+    first + second
 }
 
 // The error of what is divided by 65536 and rounded to the nearest.
