@@ -1,4 +1,5 @@
 pub mod WordSteps
+pub mod BoundsFields
 pub mod NearestErrors
 pub mod WholeGains
 pub mod FilterValues

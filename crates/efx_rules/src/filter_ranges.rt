@@ -1,6 +1,7 @@
 // The ranges of filters: the hull of their values at the corners of the ranges of what they read.
 
 ghost use Rattle.std.specs.Prelude.{◌≡◌, ◌<◌, ◌≤◌, ◌^◌, unsigned_abs};
+ghost use Rattle.std.specs.Int.{int_max, int_min};
 ghost use Rattle.fx_core.specs.Arguments.{three, two};
 ghost use Rattle.part_rules.specs.Entries.{IsSmall};
 ghost use Rattle.part_rules.specs.Ranges.{corner_values, greatest_among, least_among};
@@ -93,6 +94,19 @@ pub(crate) fn value_range(y: Bounds) -> Range
     let low = Range::at(value_at(least_state(y)));
     let high = Range::at(value_at(greatest_state(y)));
     low.joined(high)
+}
+
+/// The range of an average's value.
+pub(crate) fn average_range(x: Bounds, window: Bounds) -> Range
+    requires input { IsSmall x }
+    requires window { IsSmall window }
+    ensures lo { result.lo ≡ int_min x.lo window.lo }
+    ensures hi { result.hi ≡ int_max x.hi window.hi }
+{
+    Range {
+        lo: low_end(x).lesser(low_end(window)).number,
+        hi: high_end(x).greater(high_end(window)).number,
+    }
 }
 
 // The least number of a state's range.
