@@ -46,8 +46,8 @@ value : value_bounds (λ p. state) ≡ bounds (negsuc 999) (pos 1000) (pos 32769
 unfolding state value_bounds value_rounded value_formula whole divided quotient rounded least_quotient_above
 value = refl
 
--- the difference of two such inputs, from 0: half of it, and both errors together
-difference : difference_bounds 32768 (pos 65536) (three (bounds (pos 0) (pos 0) (pos 0)) (bounds (negsuc 999) (pos 1000) (pos 2)) (bounds (negsuc 999) (pos 1000) (pos 4))) ≡ bounds (negsuc 65535999) (pos 65536000) (pos 196608)
+-- the difference of two such inputs, from 0: half of it, with half of both errors together and one rounding
+difference : difference_bounds 32768 (pos 65536) (three (bounds (pos 0) (pos 0) (pos 0)) (bounds (negsuc 999) (pos 1000) (pos 2)) (bounds (negsuc 999) (pos 1000) (pos 4))) ≡ bounds (negsuc 65535999) (pos 65536000) (pos 229376)
 unfolding difference_bounds difference_rounded lag_error lag_formula whole minus plus times divided quotient rounded least_quotient_above
 difference = refl
 

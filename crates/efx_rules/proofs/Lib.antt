@@ -1,5 +1,9 @@
+pub mod WordSteps
+pub mod BoundsFields
 pub mod NearestErrors
+pub mod WholeGains
 pub mod FilterValues
+pub mod FilterCornerHulls
 pub mod FilterSoundness
 pub mod FilterGrows
 pub mod AverageLaws

@@ -1,12 +1,13 @@
 // The errors of filters, in units of 1/65536 of a raw count.
 
-ghost use Rattle.std.specs.Prelude.{◌≡◌, pos, ◌^◌, ◌≤◌, ◌≤ℤ◌, ◌<ℤ◌, ◌+ℤ◌, ◌*ℤ◌};
+ghost use Rattle.std.specs.Prelude.{◌≡◌, pos, ◌^◌, ◌≤◌, ◌≤ℤ◌, ◌<ℤ◌, ◌+ℤ◌, ◌-◌, ◌*ℤ◌, unsigned_abs};
 ghost use Rattle.std.specs.Int.{int_max};
 ghost use Rattle.fx_core.specs.Rounding.{least_quotient_above};
 ghost use Rattle.part_rules.specs.Entries.{IsSmall};
 ghost use Rattle.efx_rules.specs.FilterRules.{gain_error, half_count, is_whole_gain, lag_error};
 ghost use Rattle.efx_rules.specs.StateEntries.{IsState};
 
+use crate::filter_values::Lag;
 use fx_core::ceil_div;
 use part_rules::{Bounds, greater_error, sum_error};
 
@@ -38,38 +39,48 @@ fn is_whole_gain(k: i32) -> bool
 }
 
 /// The error of a lag's state.
-pub(crate) fn lag_error(teq: u32, k: i32, y: Bounds, x1: Bounds) -> i128
-    requires weight { teq ≤ 65536 }
+pub(crate) fn lag_error(lag: Lag, y: Bounds, x1: Bounds) -> i128
+    requires weight { lag.teq ≤ 65536 }
     requires state { IsState y }
     requires input { IsSmall x1 }
-    ensures { result ≡ lag_error teq k y.err x1.err }
+    ensures { result ≡ lag_error lag.teq lag.k y.err x1.err }
 {
-    driven_error(teq, k, y, i128::from(x1.err))
+    driven_error(lag, y, i128::from(x1.err))
 }
 
 /// The error of the state of a lag that a difference drives.
-pub(crate) fn difference_error(teq: u32, k: i32, y: Bounds, newer: Bounds, older: Bounds) -> i128
-    requires weight { teq ≤ 65536 }
+pub(crate) fn difference_error(lag: Lag, y: Bounds, newer: Bounds, older: Bounds) -> i128
+    requires weight { lag.teq ≤ 65536 }
     requires state { IsState y }
     requires newer { IsSmall newer }
     requires older { IsSmall older }
-    ensures { result ≡ lag_error teq k y.err (newer.err +ℤ older.err) }
+    ensures { result ≡ lag_error lag.teq lag.k y.err (newer.err +ℤ older.err) }
 {
-    driven_error(teq, k, y, sum_error(newer, older))
+    driven_error(lag, y, sum_error(newer, older))
 }
 
 // The error of a lag's state, from the error of what drives it.
 #[tactic(auto, unfolding(crate::specs::FilterRules::lag_error))]
-fn driven_error(teq: u32, k: i32, y: Bounds, drive: i128) -> i128
-    requires weight { teq ≤ 65536 }
+fn driven_error(lag: Lag, y: Bounds, drive: i128) -> i128
+    requires weight { lag.teq ≤ 65536 }
     requires state { IsState y }
     requires low { pos 0 ≤ℤ drive }
     requires high { drive <ℤ pos (2 ^ 41) }
-    ensures { result ≡ lag_error teq k y.err drive }
+    ensures { result ≡ lag_error lag.teq lag.k y.err drive }
 {
-    let drive_weight = i128::from(65536 - teq) * i128::from(k.unsigned_abs());
-    let old = weighed(i128::from(teq), i128::from(y.err));
-    rounded_error(old + weighed(drive_weight, drive))
+    let old = weighed(i128::from(lag.teq), i128::from(y.err));
+    let driven = weighed(drive_size(lag), drive);
+    rounded_error(both(old, driven))
+}
+
+// The absolute value of what that is multiplied by that drives a lag.
+fn drive_size(lag: Lag) -> i128
+    requires { lag.teq ≤ 65536 }
+    ensures value { result ≡ pos (65536 - lag.teq) *ℤ pos (unsigned_abs lag.k) }
+    ensures low { pos 0 ≤ℤ result }
+    ensures high { result ≤ℤ pos (2 ^ 47) }
+{
+    i128::from(65536 - lag.teq) * i128::from(lag.k.unsigned_abs())
 }
 
 /// The error of the value of a block with a state.
@@ -100,6 +111,19 @@ fn weighed(weight: i128, err: i128) -> i128
     ensures high { result <ℤ pos (2 ^ 103) }
 {
     weight * err
+}
+
+// Two weighed errors together.
+fn both(first: i128, second: i128) -> i128
+    requires first_low { pos 0 ≤ℤ first }
+    requires first_high { first <ℤ pos (2 ^ 103) }
+    requires second_low { pos 0 ≤ℤ second }
+    requires second_high { second <ℤ pos (2 ^ 103) }
+    ensures value { result ≡ first +ℤ second }
+    ensures low { pos 0 ≤ℤ result }
+    ensures high { result <ℤ pos (2 ^ 104) }
+{
+    first + second
 }
 
 // The error of what is divided by 65536 and rounded to the nearest.

@@ -10,6 +10,15 @@ ghost use Rattle.efx_rules.specs.FilterRules.{difference_rounded, gain_rounded, 
 use fx_core::{Mode, round};
 use part_rules::Whole;
 
+/// The constants of a lag.
+#[derive(Clone, Copy)]
+pub(crate) struct Lag {
+    /// The weight of the old state, in 1/65536.
+    pub(crate) teq: u32,
+    /// The gain, with 16 fractional bits.
+    pub(crate) k: i32,
+}
+
 /// The value of a proportional block at its input.
 pub(crate) fn gain_at(k: i32, x: Whole) -> Whole
     requires { unsigned_abs x.number < 2 ^ 32 }
@@ -19,27 +28,24 @@ pub(crate) fn gain_at(k: i32, x: Whole) -> Whole
 }
 
 /// The state of a lag at its old state and what drives it.
-pub(crate) fn lag_at(teq: u32, k: i32, y: Whole, x: Whole) -> Whole
-    requires weight { teq ≤ 65536 }
+pub(crate) fn lag_at(lag: Lag, y: Whole, x: Whole) -> Whole
+    requires weight { lag.teq ≤ 65536 }
     requires state { unsigned_abs y.number < 2 ^ 72 }
     requires drive { unsigned_abs x.number < 2 ^ 72 }
-    ensures { result.number ≡ lag_rounded teq k (two y.number x.number) }
+    ensures { result.number ≡ lag_rounded lag.teq lag.k (two y.number x.number) }
 {
-    nearest(sum(
-        product(y, old_weight(teq)),
-        product(x, drive_weight(teq, k)),
-    ))
+    nearest(sum(product(y, old_weight(lag)), product(x, drive_weight(lag))))
 }
 
 /// The same where the difference of two inputs drives it.
-pub(crate) fn difference_at(teq: u32, k: i32, y: Whole, newer: Whole, older: Whole) -> Whole
-    requires weight { teq ≤ 65536 }
+pub(crate) fn difference_at(lag: Lag, y: Whole, newer: Whole, older: Whole) -> Whole
+    requires weight { lag.teq ≤ 65536 }
     requires state { unsigned_abs y.number < 2 ^ 72 }
     requires newer { unsigned_abs newer.number < 2 ^ 32 }
     requires older { unsigned_abs older.number < 2 ^ 32 }
-    ensures { result.number ≡ difference_rounded teq k (three y.number newer.number older.number) }
+    ensures { result.number ≡ difference_rounded lag.teq lag.k (three y.number newer.number older.number) }
 {
-    lag_at(teq, k, y, newer.minus(older))
+    lag_at(lag, y, newer.minus(older))
 }
 
 /// The value of a block at its state.
@@ -60,24 +66,24 @@ fn gain_weight(k: i32) -> Whole
 }
 
 // What the old state of a lag is multiplied by.
-fn old_weight(teq: u32) -> Whole
-    requires { teq ≤ 65536 }
-    ensures value { result.number ≡ pos teq }
+fn old_weight(lag: Lag) -> Whole
+    requires { lag.teq ≤ 65536 }
+    ensures value { result.number ≡ pos lag.teq }
     ensures size { unsigned_abs result.number ≤ 2 ^ 47 }
 {
     Whole {
-        number: i128::from(teq),
+        number: i128::from(lag.teq),
     }
 }
 
 // What that is multiplied by that drives a lag.
-fn drive_weight(teq: u32, k: i32) -> Whole
-    requires { teq ≤ 65536 }
-    ensures value { result.number ≡ drive_weight teq k }
+fn drive_weight(lag: Lag) -> Whole
+    requires { lag.teq ≤ 65536 }
+    ensures value { result.number ≡ drive_weight lag.teq lag.k }
     ensures size { unsigned_abs result.number ≤ 2 ^ 47 }
 {
     Whole {
-        number: i128::from(65536 - teq) * i128::from(k),
+        number: i128::from(65536 - lag.teq) * i128::from(lag.k),
     }
 }
 

@@ -7,9 +7,10 @@ ghost use Rattle.efx_rules.specs.FilterRules.{average_bounds, difference_bounds,
 ghost use Rattle.efx_rules.specs.StateEntries.{IsState, if_state};
 
 use crate::filter_errors::{average_error, difference_error, gain_error, lag_error, value_error};
-use crate::filter_ranges::{difference_range, gain_range, lag_range, value_range};
+use crate::filter_ranges::{average_range, difference_range, gain_range, lag_range, value_range};
+use crate::filter_values::Lag;
 use crate::state_bounds::narrowed_state;
-use part_rules::{Bounds, WideBounds, greater, lesser, narrowed};
+use part_rules::{Bounds, WideBounds, narrowed};
 
 /// The bounds of a proportional block's value, from those of its input `x`: None where no part may
 /// have them. The gain `k` has 16 fractional bits.
@@ -36,11 +37,12 @@ pub fn lag_bounds(teq: u32, k: i32, y: Bounds, x1: Bounds) -> Option<Bounds>
     requires input { IsSmall x1 }
     ensures { result ≡ if_state (lag_bounds teq k (two y x1)) }
 {
-    let range = lag_range(teq, k, y, x1);
+    let lag = Lag { teq, k };
+    let range = lag_range(lag, y, x1);
     narrowed_state(WideBounds {
         lo: range.lo,
         hi: range.hi,
-        err: lag_error(teq, k, y, x1),
+        err: lag_error(lag, y, x1),
     })
 }
 
@@ -61,11 +63,12 @@ pub fn difference_bounds(
     requires older { IsSmall older }
     ensures { result ≡ if_state (difference_bounds teq k (three y newer older)) }
 {
-    let range = difference_range(teq, k, y, newer, older);
+    let lag = Lag { teq, k };
+    let range = difference_range(lag, y, newer, older);
     narrowed_state(WideBounds {
         lo: range.lo,
         hi: range.hi,
-        err: difference_error(teq, k, y, newer, older),
+        err: difference_error(lag, y, newer, older),
     })
 }
 
@@ -92,9 +95,10 @@ pub fn average_bounds(x: Bounds, window: Bounds) -> Option<Bounds>
     requires window { IsSmall window }
     ensures { result ≡ if_small (average_bounds (two x window)) }
 {
+    let range = average_range(x, window);
     narrowed(WideBounds {
-        lo: lesser(i128::from(x.lo), i128::from(window.lo)),
-        hi: greater(i128::from(x.hi), i128::from(window.hi)),
+        lo: range.lo,
+        hi: range.hi,
         err: average_error(x, window),
     })
 }
