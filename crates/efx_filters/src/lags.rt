@@ -1,10 +1,10 @@
 // Lags of first order, and differentiating ones. A state has 48 bits, 16 of them fractional.
 
-ghost use Rattle.std.specs.Prelude.{◌≡◌, ◌+ℤ◌, ◌-ℤ◌, ◌*ℤ◌, ◌-◌, ◌<◌, ◌≤◌, ◌^◌, if◌then◌else◌, pos, unsigned_abs};
+ghost use Rattle.std.specs.Prelude.{◌≡◌, ◌+ℤ◌, ◌-ℤ◌, ◌*ℤ◌, ◌<◌, ◌≤◌, ◌^◌, if◌then◌else◌, pos, unsigned_abs};
+ghost use Rattle.fx_fraction.specs.Fraction.{whole};
 ghost use Rattle.fx_core.specs.Types.{Holds};
 ghost use Rattle.efx_filters.specs.Formulas.{drive_weight};
-ghost use Rattle.efx_filters.specs.Lags.{next_state_by};
-ghost use Rattle.efx_filters.specs.States.{IsState, dt1_after, dt1_start, dt1_value, pt1_after, pt1_start, pt1_value, state_value};
+ghost use Rattle.efx_filters.specs.States.{IsState, dt1_after, dt1_start, dt1_value, next_state, pt1_after, pt1_start, pt1_value, state_value};
 
 use crate::rounding::{nearest, nearest_state, unscaled, unscaled_wide};
 use fx_core::Ty;
@@ -85,7 +85,7 @@ impl Pt1 {
         let y = next_state(self.teq, self.k, self.y, self.x1);
         self.y = y;
         self.x1 = x;
-        value(self.o, y)
+        state_value(self.o, y)
     }
 
     /// Goes back to before the first row.
@@ -127,7 +127,7 @@ impl Dt1 {
         self.y = y;
         self.x2 = self.x1;
         self.x1 = x;
-        value(self.o, y)
+        state_value(self.o, y)
     }
 
     /// Goes back to before the first row.
@@ -138,4 +138,63 @@ impl Dt1 {
         self.x1 = 0;
         self.x2 = 0;
     }
+}
+
+// What drives a differentiating lag: the change of its input up to this row, or up to the row before.
+fn change(second: bool, x: i64, x1: i64, x2: i64) -> i64
+    requires now { unsigned_abs x < 2 ^ 32 }
+    requires before { unsigned_abs x1 < 2 ^ 32 }
+    requires earlier { unsigned_abs x2 < 2 ^ 32 }
+    ensures value { result ≡ (if second then x -ℤ x1 else x1 -ℤ x2) }
+    ensures size { unsigned_abs result < 2 ^ 33 }
+{
+    if second { x - x1 } else { x1 - x2 }
+}
+
+// The state behind one more row, from what drives the lag.
+fn next_state(teq: u32, k: i32, y: i64, drive: i64) -> i64
+    requires teq { teq ≤ 65536 }
+    requires state { IsState y }
+    requires drive { unsigned_abs drive < 2 ^ 33 }
+    ensures value { result ≡ next_state teq k y (whole drive) }
+    ensures state { IsState result }
+{
+    nearest_state(unscaled_wide(unrounded(teq, k, y, drive)))
+}
+
+// The new state in 1/65536, exact.
+fn unrounded(teq: u32, k: i32, y: i64, drive: i64) -> i128
+    requires teq { teq ≤ 65536 }
+    requires state { IsState y }
+    requires drive { unsigned_abs drive < 2 ^ 33 }
+    ensures value { result ≡ y *ℤ pos teq +ℤ drive *ℤ drive_weight teq k }
+    ensures size { unsigned_abs result < 2 ^ 96 }
+{
+    product(y, i64::from(teq)) + product(drive, weight(65_536 - teq, k))
+}
+
+// The weight of what drives the lag, from the gain and what the old state's weight leaves.
+fn weight(rest: u32, k: i32) -> i64
+    requires { rest ≤ 65536 }
+    ensures value { result ≡ pos rest *ℤ k }
+    ensures size { unsigned_abs result ≤ 2 ^ 47 }
+{
+    i64::from(rest) * i64::from(k)
+}
+
+fn product(a: i64, b: i64) -> i128
+    requires first { unsigned_abs a < 2 ^ 48 }
+    requires second { unsigned_abs b ≤ 2 ^ 47 }
+    ensures value { result ≡ a *ℤ b }
+    ensures size { unsigned_abs result < 2 ^ 95 }
+{
+    i128::from(a) * i128::from(b)
+}
+
+// The value that a state gives.
+fn state_value(o: Ty, y: i64) -> i64
+    requires { IsState y }
+    ensures { result ≡ state_value o y }
+{
+    nearest(o, unscaled(y))
 }

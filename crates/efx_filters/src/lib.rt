@@ -5,6 +5,7 @@
 mod average;
 mod gain;
 mod lags;
+mod ring;
 mod rounding;
 
 pub use crate::average::Average;
