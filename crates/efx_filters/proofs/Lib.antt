@@ -1,0 +1,3 @@
+mod Reductions
+mod Shifts
+mod WindowSums
