@@ -1,3 +1,4 @@
+mod Products
 mod Reductions
 mod Shifts
 mod WindowSums

@@ -44,8 +44,8 @@ whole-minus a b = ap (λ n. record { numer = n; less = 0 }) (sym (ap₂ (λ s t.
 
 -- what drives a differentiating lag
 pub is_drive : (lag : Dt1Data) (x : ℤ) → whole (if lag.second then x -ℤ lag.x1 else (lag.x1 -ℤ lag.x2)) ≡ dt1_drive lag x
-is_drive lag x = chosen lag.second (whole-minus x lag.x1) (whole-minus lag.x1 lag.x2)
+is_drive lag x = chosen lag.second _ _ (whole-minus x lag.x1) (whole-minus lag.x1 lag.x2)
   where
-    chosen : (second : Bool) {a b : ℤ} {f g : Fraction} → whole a ≡ f → whole b ≡ g → whole (if second then a else b) ≡ (if second then f else g)
-    chosen true e e' = e
-    chosen false e e' = e'
+    chosen : (second : Bool) (a b : ℤ) {f g : Fraction} → whole a ≡ f → whole b ≡ g → whole (if second then a else b) ≡ (if second then f else g)
+    chosen true a b e e' = e
+    chosen false a b e e' = e'

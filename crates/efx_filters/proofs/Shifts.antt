@@ -1,5 +1,5 @@
 -- A half added and a shift to the right, as words give them, round to the nearest.
-use Rattle.std.proofs.Common.{◌≡◌, ℕ, ◌+◌, ◌-◌, ◌<◌, ◌≤◌, ◌^◌, lit≤, ℤ, pos, negsuc, ◌+ℤ◌, ◌*ℤ◌, refl, ◌∙◌, ap, arith}
+use Rattle.std.proofs.Common.{◌≡◌, ℕ, ◌+◌, ◌-◌, ◌*◌, ◌<◌, ◌≤◌, ◌^◌, lit≤, ℤ, pos, negsuc, ◌+ℤ◌, ◌*ℤ◌, refl, ◌∙◌, ap, arith}
 use Rattle.std.specs.Prelude.{unsigned_abs}
 use Rattle.std.specs.Int.{int_div_euclid, w64, w128}
 use Rattle.std.proofs.lemmas.Int.{ints, to_z-of_z, fits_signed_from_abs}
@@ -40,8 +40,8 @@ shift_small m =
 shift_word : (w : Width) (n h : ℤ) (limit : ℕ) → h ≡ pos 32768 → unsigned_abs n < limit → limit + 32769 ≤ 2 ^ hbits w → word_of w (shr_z (word_of w (word_of w n +ℤ word_of w h)) 65536) ≡ rounded Near n (pos 65536)
 shift_word w n h limit e small room =
     let sum = sum_step w n h limit 32769 small (rw e (omega arith)) room in
-    let small_sum : unsigned_abs (n +ℤ h) < 2 ^ hbits w = rw sum.value at omega (arith, sum.size, room) in
-    let plain : word_of w (n +ℤ h) ≡ n +ℤ h = to_z-of_z w _ (fits_signed_from_abs w (n +ℤ h) small_sum) in
+    let size = rw sum.value at sum.size in
+    let small_sum : unsigned_abs (n +ℤ h) < 2 ^ hbits w = omega (arith, size, room) in
     let fits = fits_signed_from_abs w (shr_z (n +ℤ h) 65536) (omega (arith, shift_small (n +ℤ h), small_sum)) in
     ap (λ m. word_of w (shr_z m 65536)) sum.value ∙ to_z-of_z w _ fits ∙ ap (λ t. shr_z (n +ℤ t) 65536) e ∙ shift_rounds n
 

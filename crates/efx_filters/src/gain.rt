@@ -1,6 +1,6 @@
 // Proportional blocks.
 
-ghost use Rattle.std.specs.Prelude.{◌≡◌, ◌*ℤ◌, ◌<◌, ◌^◌, unsigned_abs};
+ghost use Rattle.std.specs.Prelude.{◌≡◌, ◌-◌, ◌*ℤ◌, ◌<◌, ◌≤◌, ◌^◌, unsigned_abs};
 ghost use Rattle.fx_core.specs.Types.{Holds};
 ghost use Rattle.efx_filters.specs.States.{gain_after, gain_start, gain_value};
 
@@ -52,7 +52,7 @@ impl Gain {
 fn product(k: i32, x: i64) -> i64
     requires { unsigned_abs x < 2 ^ 32 }
     ensures value { result ≡ x *ℤ k }
-    ensures size { unsigned_abs result < 2 ^ 63 }
+    ensures size { unsigned_abs result ≤ 2 ^ 63 - 2 ^ 31 }
 {
     x * i64::from(k)
 }
