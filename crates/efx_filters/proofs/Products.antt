@@ -12,7 +12,7 @@ pub record IsProduct (z exact : ℤ) : Type 0 where
 
 pub gain_product : (x k f : ℤ) → unsigned_abs x < 2 ^ 32 → unsigned_abs k ≤ 2 ^ 31 → f ≡ k → IsProduct (word_of w64 x *ℤ word_of w64 f) (x *ℤ k)
 gain_product x k f few small e =
-    let reach : unsigned_abs x * unsigned_abs k ≤ (2 ^ 32 - 1) * 2 ^ 31 = mul-le-mul {m₂ = 2 ^ 31} (omega (arith, few)) small in
+    let reach : unsigned_abs x * unsigned_abs k ≤ (2 ^ 32 - 1) * 2 ^ 31 = mul-le-mul {n₁ = unsigned_abs x} {m₁ = unsigned_abs k} {n₂ = 2 ^ 32 - 1} {m₂ = 2 ^ 31} (omega (arith, few)) small in
     let size : unsigned_abs (x *ℤ k) ≤ 2 ^ 63 - 2 ^ 31 = rw (unsigned_abs-mul x k) reach in
     let fits = fits_signed_from_abs w64 (x *ℤ k) (omega (arith, size)) in
     let exact = ap₂ (λ s t. s *ℤ t) (plain w64 x (omega (arith, few))) (ap (word_of w64) e ∙ plain w64 k (omega (arith, small))) in
