@@ -86,9 +86,9 @@ pub is_average : (average : AverageData) (x sum : ℤ) → suc (length average.w
 unfolding average_value
 is_average average x sum count e =
     ap (saturated average.o) (
-      ap₂ (λ s n. rounded Near s (pos n)) e (sym count)
-      ∙ ap (rounded_fraction Near) (sym (formula_is average.window x))
-      ∙ ap (λ n. rounded_fraction Near (average_formula n (input_ago average.window x))) count
+    ap₂ (λ s n. rounded Near s (pos n)) e (sym count)
+    ∙ ap (rounded_fraction Near) (sym (formula_is average.window x))
+    ∙ ap (λ n. rounded_fraction Near (average_formula n (input_ago average.window x))) count
     )
 
 -- ---- what an average keeps
@@ -111,7 +111,7 @@ zeros_kept t n len window e count few = rw e (
   ap suc (length-replicate len (pos 0)) ∙ count,
   few,
   sym (total-zeros len),
-  λ k d h. rw (get_or-replicate len k (pos 0) d (omega (arith, h, length-replicate len (pos 0)))) (zero_held t)
+  λ k d h. rw (get_or-replicate len k (pos 0) d (omega (arith, h, length-replicate len (pos 0)))) (zero_held t),
 )
 
 -- numbers of a type with one more in front
@@ -137,7 +137,7 @@ kept_behind t n sum x last next window behind (count, few, e, held) first is_beh
   ap suc (length-take-le (length window) (x ∷ window) (omega arith)) ∙ count,
   few,
   same_in _ _ (omega (arith, ints, is_next, e, is_last, total-last x window)),
-  held_take t (length window) (x ∷ window) (held_front t x window first held)
+  held_take t (length window) (x ∷ window) (held_front t x window first held),
 )
 
 -- the number that drops out is of the type
