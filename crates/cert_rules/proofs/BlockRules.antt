@@ -242,11 +242,13 @@ block_state net rows i (Dt1 false xty ty x teq k) m has = has refl
 -- ---- what the functions of the rules owe, family by family
 
 -- bounds by the first three that are known
-pub arith_returns : (net : NetData) (i : ℕ) (b : Block) (op : ArithOp) (v : Variant) (x y z : WireNo) (sh : ℕ) (given : Given) (known : List Bounds) (result : Option Bounds) → b ≡ Arith op v x y z sh → is_smooth_operation op ≡ true → AreGiven given known → result ≡ cond (arith_may_divide_by_zero op (three given.first given.second given.third)) None (if_small (arith_bounds op sh (three given.first given.second given.third))) → result ≡ cond ((value_rule_of net i b).fails known) None (if_small ((value_rule_of net i b).bounds known))
+pub arith_returns : (net : NetData) (i : ℕ) (b : Block) (op : ArithOp) (v : Variant) (x y z : WireNo) (sh : ℕ) (given : Given) (known : List Bounds) (result : Option Bounds) → b ≡ Arith op v x y z sh → is_smooth_operation op ≡ true → AreGiven given known → result ≡ cond (arith_may_divide_by_zero op (three given.first given.second given.third)) None (if_small (arith_bounds op sh (three given.first given.second given.third))) → result ≡ cond ((block_rule net i b Value).fails known) None (if_small ((block_rule net i b Value).bounds known))
+unfolding block_rule
 arith_returns net i b op v x y z sh given known result is smooth g e =
     rw is (e ∙ rw (g.first, g.second, g.third) (ap₂ (λ t n. cond t None (if_small n)) (divisor_of_three op (bounds_at known) ∙ rw smooth refl) (bounds_of_three op sh (bounds_at known))))
 
-pub scaled_returns : (net : NetData) (i : ℕ) (b : Block) (op : ScaledOp) (v : Variant) (x y : WireNo) (points : Points) (given : Given) (known : List Bounds) (result : Option Bounds) → b ≡ Scaled op v x y → points ≡ points_of net (wire_at net.wires i).kind b → AreGiven given known → result ≡ cond (scaled_may_divide_by_zero op (two given.first given.second)) None (if_small (scaled_bounds op points (two given.first given.second))) → result ≡ cond ((value_rule_of net i b).fails known) None (if_small ((value_rule_of net i b).bounds known))
+pub scaled_returns : (net : NetData) (i : ℕ) (b : Block) (op : ScaledOp) (v : Variant) (x y : WireNo) (points : Points) (given : Given) (known : List Bounds) (result : Option Bounds) → b ≡ Scaled op v x y → points ≡ points_of net (wire_at net.wires i).kind b → AreGiven given known → result ≡ cond (scaled_may_divide_by_zero op (two given.first given.second)) None (if_small (scaled_bounds op points (two given.first given.second))) → result ≡ cond ((block_rule net i b Value).fails known) None (if_small ((block_rule net i b Value).bounds known))
+unfolding block_rule
 scaled_returns net i b op v x y points given known result is same g e =
     rw is (e ∙ rw (g.first, g.second, same ∙ ap (points_of net (wire_at net.wires i).kind) is) (ap₂ (λ t n. cond t None (if_small n)) (form_divisor_of_two op (bounds_at known)) (form_bounds_of_two op (points_of net (wire_at net.wires i).kind (Scaled op v x y)) (bounds_at known))))
 

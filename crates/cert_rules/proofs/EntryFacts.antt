@@ -1,5 +1,5 @@
 -- What the tests of an entry say, and how small allowed entries of values are.
-use Rattle.std.proofs.Common.{◌≡◌, ℕ, ◌<◌, ◌≤◌, ◌^◌, Bool, true, ◌&&◌, length, List, ℤ, pos, negsuc, ◌≤ℤ◌, int_le, int_lt, sym, ap, ◌∙◌, Fits, w32, Fits-le, Fits-lit}
+use Rattle.std.proofs.Common.{◌≡◌, ℕ, zero, suc, ◌<◌, ◌≤◌, ◌^◌, Bool, true, ◌&&◌, length, List, [], ◌∷◌, get_or, arith, refl, subst, ℤ, pos, negsuc, ◌≤ℤ◌, int_le, int_lt, sym, ap, ◌∙◌, Fits, w32, Fits-le, Fits-lit}
 use Rattle.std.proofs.lemmas.Bool.{and_parts}
 use Rattle.fx_fraction.proofs.WholeNumbers.{int_le-true, int_lt-true, int_le_trans}
 use Rattle.fx_core.specs.declared.word_type.Ty.{Ty}
@@ -10,7 +10,7 @@ use Rattle.net_model.specs.declared.wires.Kind.TheVariants.{Num, Truth}
 use Rattle.net_model.specs.declared.wires.Role.{Role}
 use Rattle.net_model.specs.declared.wires.Role.TheVariants.{Y, X1, X2, W, Value}
 use Rattle.net_model.specs.declared.wires.Part.{Part}
-use Rattle.net_model.specs.Wires.{NetData, wire_at, kind_least, kind_greatest, point_of, parts_of}
+use Rattle.net_model.specs.Wires.{NetData, wire_at, kind_least, kind_greatest, no_part, point_of, parts_of}
 use Rattle.net_model.specs.Validity.{IsValid}
 use Rattle.net_model.proofs.ValidityFacts.{point_of-valid}
 use Rattle.net_model.proofs.PartPlaces.{few_parts, part_there}
@@ -114,9 +114,19 @@ small_none = record { low = record { le = tt }; ordered = record { le = tt }; hi
 
 -- ---- numbers of parts and points
 
+-- what is read of a list where it has something
+pub any_default : (parts : List Part) (k : ℕ) (d e : Part) → k < length parts → get_or parts k d ≡ get_or parts k e
+any_default [] k d e h = absurd (omega arith)
+any_default (part ∷ parts) zero d e h = refl
+any_default (part ∷ parts) (suc k) d e h = any_default parts k d e (omega arith)
+
 -- the part of a number stands on a wire
 pub part_at-wire : (net : NetData) (k : ℕ) → k < length (parts_of net.wires) → (part_at net k).wire.0 < length net.wires
 part_at-wire net k h = (part_there net k h).wire
+
+-- the same of a part that is read from the list, whatever is read where there is none
+pub part-wire : (net : NetData) (k : ℕ) (none : Part) → k < length (parts_of net.wires) → (get_or (parts_of net.wires) k none).wire.0 < length net.wires
+part-wire net k none h = subst (λ (part : Part). part.wire.0 < length net.wires) (any_default (parts_of net.wires) k no_part none h) (part_at-wire net k h)
 
 -- a point that was read
 pub point-valid : (net : NetData) (i : ℕ) (kind : Kind) (point : ℕ) (ty : Ty) → IsValid net → i < length net.wires → kind ≡ (wire_at net.wires i).kind → kind ≡ Num ty point → point ≤ 15

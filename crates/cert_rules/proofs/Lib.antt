@@ -6,6 +6,7 @@ pub mod PartValues
 pub mod FilterBlocks
 pub mod BlockRules
 pub mod BlockParts
+pub mod GivenFacts
 pub mod ReadParts
 pub mod RuleFacts
 pub mod RuleSoundness

@@ -1,0 +1,17 @@
+use Rattle.cert_rules.proofs.GivenFacts.{dt1_given, dt1_states, pt1_given, pt1_states, stateless_gives}
+use Rattle.cert_rules.proofs.ruling.state_bounds.Goals as goal
+
+pub lag_bounds-requires-clause-weight : goal.lag_bounds-requires-clause-weight
+lag_bounds-requires-clause-weight c = (pt1_given c.args.net.now c.args.wire.0 c.args.block.now _ _ _ _ _ c.args.given c.requires.valid c.requires.there c.requires.block c.requires.sized c.in-Pt1.is).weight
+
+pub lag_bounds-requires-clause-state : goal.lag_bounds-requires-clause-state
+lag_bounds-requires-clause-state c = (pt1_given c.args.net.now c.args.wire.0 c.args.block.now _ _ _ _ _ c.args.given c.requires.valid c.requires.there c.requires.block c.requires.sized c.in-Pt1.is).state
+
+pub lag_bounds-requires-clause-input : goal.lag_bounds-requires-clause-input
+lag_bounds-requires-clause-input c = (pt1_given c.args.net.now c.args.wire.0 c.args.block.now _ _ _ _ _ c.args.given c.requires.valid c.requires.there c.requires.block c.requires.sized c.in-Pt1.is).second
+
+pub returns-in-Pt1 : goal.returns-in-Pt1
+returns-in-Pt1 c = λ known given. pt1_states c.args.net.now c.args.wire.0 c.args.block.now _ _ _ _ _ c.args.given known _ c.in-Pt1.is given c.lag_bounds.ensures
+
+pub returns-in-Dt1 : goal.returns-in-Dt1
+returns-in-Dt1 c = λ known given. dt1_states c.args.net.now c.args.wire.0 c.args.block.now _ _ _ _ _ _ c.args.given known _ c.in-Dt1.is given c.difference_bounds.ensures
