@@ -1,13 +1,13 @@
 -- The rule of averages is sound: a mean lies between the ends that its numbers lie between, and errs by no more than they do.
 use Rattle.std.specs.Prelude.{◌≡◌, ℕ, zero, suc, ◌≤◌, ◌<◌, ℤ, pos, ◌+ℤ◌, ◌*ℤ◌, ◌≤ℤ◌}
-use Rattle.std.specs.Int.{int_min, int_max}
-use Rattle.std.proofs.Common.{refl, sym, ap, ap₂, subst, arith, ◌∙◌}
+use Rattle.std.specs.Int.{int_max}
+use Rattle.std.proofs.Common.{refl, sym, ap, subst, arith, ◌∙◌}
 use Rattle.std.proofs.lemmas.Int.{ints, clamps}
 use Rattle.fx_fraction.specs.Fraction.{Fraction, whole, plus, divided, quotient}
-use Rattle.fx_fraction.proofs.WholeNumbers.{int_le_refl, int_le_trans, int_le-add, int_le-pos}
+use Rattle.fx_fraction.proofs.WholeNumbers.{int_le_refl, int_le-add, int_le-pos}
 use Rattle.fx_fraction.proofs.Polynomials.{differences, as_difference, same}
 use Rattle.fx_core.specs.declared.quotient.Mode.TheVariants.{Near as Nearest}
-use Rattle.fx_core.specs.Rounding.{rounded, least_quotient_above}
+use Rattle.fx_core.specs.Rounding.{rounded}
 use Rattle.fx_core.specs.Values.{rounded_fraction}
 use Rattle.fx_core.proofs.RoundingLaws.{rounded_above, rounded_below}
 use Rattle.part_rules.specs.declared.bounds.Bounds.{Bounds}

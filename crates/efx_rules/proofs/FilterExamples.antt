@@ -1,5 +1,5 @@
 -- What the rules of the filters give, worked out: each computes.
-use Rattle.std.specs.Prelude.{◌≡◌, ℕ, ℤ, pos, negsuc, refl}
+use Rattle.std.specs.Prelude.{◌≡◌, ℤ, pos, negsuc, refl}
 use Rattle.fx_fraction.specs.Fraction.{whole, minus, plus, times, divided, quotient}
 use Rattle.fx_core.specs.Arguments.{two, three}
 use Rattle.fx_core.specs.Rounding.{rounded, least_quotient_above}

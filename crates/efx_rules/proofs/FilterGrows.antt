@@ -1,12 +1,11 @@
 -- The rules of the filters are monotone: from narrower bounds each gives bounds inside of those from wide ones.
-use Rattle.std.specs.Prelude.{◌≡◌, ℕ, ◌-◌, ◌*◌, ◌++◌, Bool, true, false, [], ◌∷◌, ℤ, pos, ◌+ℤ◌, ◌*ℤ◌, ◌≤ℤ◌, unsigned_abs, if◌then◌else◌}
-use Rattle.std.proofs.Common.{refl, arith, subst, append-nil}
+use Rattle.std.specs.Prelude.{ℕ, ◌-◌, ◌*◌, Bool, true, false, ℤ, pos, ◌+ℤ◌, ◌*ℤ◌, ◌≤ℤ◌, unsigned_abs, if◌then◌else◌}
+use Rattle.std.proofs.Common.{arith}
 use Rattle.std.proofs.lemmas.Int.{ints}
-use Rattle.fx_fraction.specs.Fraction.{whole, minus}
+use Rattle.fx_fraction.specs.Fraction.{whole}
 use Rattle.fx_fraction.proofs.WholeNumbers.{int_le_refl, int_le-add, int_le-pos, int_le-min, int_le-max}
-use Rattle.fx_core.specs.Rounding.{least_quotient_above}
 use Rattle.part_rules.specs.declared.bounds.Bounds.{Bounds}
-use Rattle.part_rules.specs.Ranges.{corner_values, least_among, greatest_among}
+use Rattle.part_rules.specs.Ranges.{corner_values}
 use Rattle.part_rules.specs.PartRules.{LiesInside}
 use Rattle.part_rules.proofs.Within.{whole_within}
 use Rattle.part_rules.proofs.CornerHulls.{IsInside}

@@ -1,11 +1,10 @@
 -- The rules of the filters are sound: a part keeps to what its rule gives, where what it reads is within its bounds.
-use Rattle.std.specs.Prelude.{◌≡◌, ℕ, ◌-◌, ◌*◌, ◌<◌, Bool, true, false, [], ◌∷◌, ℤ, pos, ◌+ℤ◌, ◌-ℤ◌, ◌*ℤ◌, ◌≤ℤ◌, unsigned_abs, if◌then◌else◌}
-use Rattle.std.specs.Ordering.{int_eq}
-use Rattle.std.proofs.Common.{refl, sym, ap, ap₂, subst, arith, ◌∙◌, rules}
+use Rattle.std.specs.Prelude.{◌≡◌, ℕ, ◌-◌, ◌*◌, ◌<◌, Bool, true, false, [], ◌∷◌, ℤ, pos, ◌+ℤ◌, ◌-ℤ◌, ◌*ℤ◌, unsigned_abs, if◌then◌else◌}
+use Rattle.std.proofs.Common.{refl, sym, ap, ap₂, subst, arith, ◌∙◌}
 use Rattle.std.proofs.lemmas.Bool.Decides.{Decides-int_eq}
-use Rattle.std.proofs.lemmas.Int.{ints, unsigned_abs-mul}
+use Rattle.std.proofs.lemmas.Int.{unsigned_abs-mul}
 use Rattle.fx_fraction.specs.Fraction.{Fraction, whole, denom, minus, plus, times, divided, quotient}
-use Rattle.fx_fraction.proofs.WholeNumbers.{int_mul_comm, int_mul_assoc, int_mul_right_comm}
+use Rattle.fx_fraction.proofs.WholeNumbers.{int_mul_comm, int_mul_assoc}
 use Rattle.fx_core.specs.declared.quotient.Mode.TheVariants.{Near as Nearest}
 use Rattle.fx_core.specs.Arguments.{two, three}
 use Rattle.fx_core.specs.Rounding.{least_quotient_above}
@@ -13,12 +12,11 @@ use Rattle.fx_core.specs.Values.{rounded_fraction}
 use Rattle.part_rules.specs.declared.bounds.Bounds.{Bounds}
 use Rattle.part_rules.specs.Within.{IsWithin}
 use Rattle.part_rules.proofs.CornerHulls.{IsBetween, IsInside, in_hull, between_in_hull, hull_of_corners, hull_of_three_corners}
-use Rattle.part_rules.proofs.Hulls.{IsInHull}
 use Rattle.part_rules.proofs.Nearness.{Near, near_plus, near_minus}
 use Rattle.efx_filters.specs.Formulas.{drive_weight, gain_formula, lag_formula, value_formula}
 use Rattle.efx_rules.specs.FilterRules.{gain_rounded, gain_bounds, gain_error, is_whole_gain, lag_rounded, lag_bounds, lag_error, difference_rounded, difference_bounds, value_rounded, value_bounds}
 use Rattle.efx_rules.proofs.NearestErrors.{near_rounded, near_rounded_whole, near_times, near_divided}
-use Rattle.efx_rules.proofs.FilterValues.{times-whole, divided-whole, nearest, weighted, gain-whole, lag-whole, difference-whole, value-whole, gain_between, old_between, drive_between, newer_between, older_between, value_between}
+use Rattle.efx_rules.proofs.FilterValues.{times-whole, divided-whole, weighted, gain-whole, lag-whole, difference-whole, value-whole, gain_between, old_between, drive_between, newer_between, older_between, value_between}
 
 pub inside : (b : Bounds) (m : ℤ) (e : Fraction) → IsWithin b m e → IsInside b.lo b.hi m
 inside b m e w = record { low = w.low; high = w.high }

@@ -2,10 +2,10 @@
 use Rattle.std.specs.Prelude.{◌≡◌, ℕ, ℤ, pos, ◌+ℤ◌, ◌-ℤ◌, ◌*ℤ◌, ◌≤ℤ◌}
 use Rattle.std.proofs.Common.{refl, ap, ap₂, ◌∙◌, arith, inl, inr}
 use Rattle.std.proofs.lemmas.Int.{ints}
-use Rattle.fx_fraction.specs.Fraction.{Fraction, whole, plus, minus, times, divided, quotient}
+use Rattle.fx_fraction.specs.Fraction.{whole, plus, minus, times, divided, quotient}
 use Rattle.fx_fraction.proofs.WholeNumbers.{int_add_comm, int_le_refl, int_le_of-lt, int_le-add, int_le-mul, int_le-mul_reversed, int_lt_or_le, int_mul-one}
 use Rattle.fx_core.specs.declared.quotient.Mode.TheVariants.{Near as Nearest}
-use Rattle.fx_core.specs.Arguments.{two, three}
+use Rattle.fx_core.specs.Arguments.{two}
 use Rattle.fx_core.specs.Rounding.{rounded}
 use Rattle.fx_core.specs.Values.{rounded_fraction}
 use Rattle.fx_core.proofs.RoundingLaws.{rounded_monotone}

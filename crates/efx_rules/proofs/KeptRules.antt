@@ -1,5 +1,4 @@
 -- The rules of the filters as records are kept: each is sound and monotone.
-use Rattle.std.specs.Prelude.{Bool, true, false}
 use Rattle.std.proofs.Common.{refl}
 use Rattle.part_rules.specs.PartRules.{bounds_at}
 use Rattle.efx_rules.specs.KeptRules.{GainsKeepRules, LagsKeepRules, DifferencesKeepRules, ValuesKeepRules, AveragesAreMonotone}

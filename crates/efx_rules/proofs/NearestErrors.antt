@@ -1,6 +1,6 @@
 -- What multiplying by a whole number, dividing by one and rounding to the nearest do to errors.
 use Rattle.std.specs.Prelude.{◌≡◌, ℕ, ◌*◌, ◌≤◌, ℤ, pos, ◌+ℤ◌, ◌-ℤ◌, ◌*ℤ◌, ◌≤ℤ◌, unsigned_abs}
-use Rattle.std.proofs.Common.{refl, sym, ap, subst, arith, ◌∙◌}
+use Rattle.std.proofs.Common.{ap, subst, arith, ◌∙◌}
 use Rattle.std.proofs.lemmas.Int.{ints}
 use native.Mathlib.Nat.{mul-pos}
 use Rattle.fx_fraction.specs.Fraction.{Fraction, denom, whole, over, plus, times, divided, distance, AtMost, Is, Same}

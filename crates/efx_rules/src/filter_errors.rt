@@ -1,4 +1,5 @@
-// The errors of filters, in units of 1/65536 of a raw count.
+// The errors of filters, in units of 1/65536 of a raw count. The error of a state has at most 56 bits,
+// that of an input 40, and no number here more than 105.
 
 ghost use Rattle.std.specs.Prelude.{◌≡◌, pos, ◌^◌, ◌≤◌, ◌≤ℤ◌, ◌<ℤ◌, ◌+ℤ◌, ◌-◌, ◌*ℤ◌, unsigned_abs};
 ghost use Rattle.std.specs.Int.{int_max};
@@ -73,7 +74,7 @@ fn driven_error(lag: Lag, y: Bounds, drive: i128) -> i128
     rounded_error(both(old, driven))
 }
 
-// The absolute value of what that is multiplied by that drives a lag.
+// The weight of what drives a lag, without its sign.
 fn drive_size(lag: Lag) -> i128
     requires { lag.teq ≤ 65536 }
     ensures value { result ≡ pos (65536 - lag.teq) *ℤ pos (unsigned_abs lag.k) }

@@ -55,7 +55,7 @@ pub(crate) fn value_at(y: Whole) -> Whole
     nearest(y)
 }
 
-// What the input of a proportional block is multiplied by.
+// The weight of a proportional block's input.
 fn gain_weight(k: i32) -> Whole
     ensures value { result.number ≡ k }
     ensures size { unsigned_abs result.number ≤ 2 ^ 47 }
@@ -65,7 +65,7 @@ fn gain_weight(k: i32) -> Whole
     }
 }
 
-// What the old state of a lag is multiplied by.
+// The weight of a lag's old state.
 fn old_weight(lag: Lag) -> Whole
     requires { lag.teq ≤ 65536 }
     ensures value { result.number ≡ pos lag.teq }
@@ -76,7 +76,7 @@ fn old_weight(lag: Lag) -> Whole
     }
 }
 
-// What that is multiplied by that drives a lag.
+// The weight of what drives a lag.
 fn drive_weight(lag: Lag) -> Whole
     requires { lag.teq ≤ 65536 }
     ensures value { result.number ≡ drive_weight lag.teq lag.k }

@@ -1,7 +1,6 @@
-use Rattle.std.proofs.Common.{◌∙◌, ap, ap₂, pos, ◌+ℤ◌, ◌*ℤ◌, ℤ, arith}
-use Rattle.std.specs.Int.{w64, w128}
-use Rattle.std.proofs.lemmas.Int.{ints, to_z-of_z}
-use borrow.Author.Differences.{fits_in}
+use Rattle.std.proofs.Common.{◌∙◌, ap, ap₂, pos, ◌+ℤ◌, ◌*ℤ◌}
+use Rattle.std.specs.Int.{w128}
+use Rattle.std.proofs.lemmas.Int.{to_z-of_z}
 use Rattle.fx_core.specs.Rounding.{least_quotient_above}
 use Rattle.efx_rules.specs.FilterRules.{lag_error}
 use Rattle.efx_rules.proofs.WordSteps.{state_error}

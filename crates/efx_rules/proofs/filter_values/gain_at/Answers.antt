@@ -1,4 +1,4 @@
-use Rattle.std.proofs.Common.{◌∙◌, ap, sym, pos, ◌*ℤ◌}
+use Rattle.std.proofs.Common.{◌∙◌, ap, sym, ◌*ℤ◌}
 use Rattle.std.specs.Int.{w32}
 use Rattle.std.proofs.lemmas.Int.{to_z-of_z}
 use Rattle.efx_rules.proofs.FilterValues.{nearest, gain-whole}
