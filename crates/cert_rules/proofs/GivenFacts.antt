@@ -1,6 +1,7 @@
 -- What the functions of the rules owe, family by family: that the bounds that they are given are small enough, and that the
 -- bounds that they compute are the definition's.
-use Rattle.std.specs.Prelude.{◌≡◌, ℕ, zero, suc, ◌+◌, ◌<◌, ◌≤◌, Bool, true, false, List, [], ◌∷◌, ◌++◌, map, length, take, get_or, ℤ, pos, Option, Some, None}
+use Rattle.std.specs.Prelude.{◌≡◌, ℕ, zero, suc, ◌+◌, ◌<◌, ◌≤◌, Bool, true, false, ◌||◌, List, [], ◌∷◌, ◌++◌, map, length, take, get_or, ℤ, pos, Option, Some, None}
+use Rattle.std.specs.List.{list_any}
 use Rattle.std.proofs.Common.{refl, ap, sym, ◌∙◌, cond, subst, arith, inl, inr, ◌⊎◌}
 use Rattle.fx_core.specs.declared.word_type.Ty.{Ty}
 use Rattle.fx_core.specs.Arguments.{three, two}
@@ -15,20 +16,21 @@ use Rattle.net_model.specs.declared.wires.Item.TheVariants.{Block as OfBlock}
 use Rattle.net_model.specs.declared.wires.Role.{Role}
 use Rattle.net_model.specs.declared.wires.Role.TheVariants.{Y, X1, X2, W, Value}
 use Rattle.net_model.specs.declared.wires.Part.{Part}
-use Rattle.net_model.specs.Wires.{NetData, wire_at, has_role}
+use Rattle.net_model.specs.Wires.{NetData, wire_at, block_roles, has_role, same_role}
 use Rattle.net_model.specs.BlockForms.{form_of}
 use Rattle.net_model.specs.Validity.{IsValid}
 use Rattle.net_model.proofs.ValidityFacts.{argument_of-valid, dt1-valid, pt1-valid}
 use Rattle.part_rules.specs.declared.bounds.Bounds.{Bounds}
 use Rattle.part_rules.specs.Entries.{IsSmall, if_small}
-use Rattle.part_rules.specs.PartRules.{Reading, bounds_at, read_now}
+use Rattle.part_rules.specs.PartRules.{PartRule, Reading, bounds_at, read_now}
 use Rattle.efx_rules.specs.FilterRules.{average_bounds, difference_bounds, gain_bounds, lag_bounds, value_bounds}
 use Rattle.efx_rules.specs.StateEntries.{IsState, if_state}
 use Rattle.efx_rules.proofs.FilterArguments.{average_bounds_of_two, difference_bounds_of_three, gain_bounds_of_one, lag_bounds_of_two, value_bounds_of_one}
 use Rattle.cert_rules.specs.declared.lookups.Given.{Given}
 use Rattle.cert_rules.specs.Rules.{block_rule, held_wire, holder, kept_rule_of, kept_wire, no_rule, state_rule_of, value_rule_of}
-use Rattle.cert_rules.specs.GivenBounds.{AreGiven, AreSized, IsSized, reading_at, value_part}
+use Rattle.cert_rules.specs.GivenBounds.{AreGiven, AreSized, IsSized, if_sized, reading_at, value_part}
 use Rattle.cert_rules.proofs.BlockRules.{arith_reads, scaled_reads, values_read}
+use Rattle.cert_rules.proofs.RuleFacts.{kept_returns}
 
 -- ---- the parts of a block by their roles
 
@@ -54,6 +56,21 @@ value_rule_is net i b role e = rw e refl
 pub state_rule_is : (net : NetData) (i : ℕ) (b : Block) (role : Role) → role ≡ Y → block_rule net i b role ≡ state_rule_of i b
 unfolding block_rule
 state_rule_is net i b role e = rw e refl
+
+pub kept_gives : (net : NetData) (i : ℕ) (b : Block) (role : Role) (given : Given) (known : List Bounds) (keeps : Bool) (result : Option Bounds) → IsKeptRole role → AreSized (block_rule net i b role).reads given → AreGiven given known → keeps ≡ has_role role (block_roles b) → result ≡ cond keeps (Some given.first) None → result ≡ cond ((block_rule net i b role).fails known) None (if_sized role ((block_rule net i b role).bounds known))
+kept_gives net i b role given known keeps result kept sized g e f =
+    let same = kept_rule_is net i b role kept in
+    subst (λ (r : PartRule Part). result ≡ cond (r.fails known) None (if_sized role (r.bounds known))) (sym same)
+    (kept_returns net i b role given known keeps result (kept_role role kept) (subst (λ (r : PartRule Part). AreSized r.reads given) same sized) g e f)
+
+-- a role is among others
+pub any_has : (role : Role) (roles : List Role) → list_any (λ r. same_role r role) roles ≡ has_role role roles
+any_has role [] = refl
+any_has role (r ∷ roles) = either (same_role r role) _ _ (any_has role roles)
+  where
+    either : (a b c : Bool) → b ≡ c → (a || b) ≡ cond a true c
+    either true b c h = refl
+    either false b c h = h
 
 -- the wire whose values a kept part holds
 pub kept_holder : (net : NetData) (part : Part) (item : Item) (b : Block) (wire : ℕ) → IsKeptRole part.role → item ≡ (wire_at net.wires part.wire.0).item → item ≡ OfBlock b → wire ≡ kept_wire part.wire.0 b → wire ≡ holder net part
@@ -84,7 +101,9 @@ kept_there net part item b wire valid h is case e = rw e (kept_below net part.wi
 pub collected : (wires : List WireNo) (k : ℕ) → k < length wires → map (λ w. value_part w.0) (take k wires) ++ value_part (get_or wires k (record { 0 = 0 })).0 ∷ [] ≡ map (λ w. value_part w.0) (take (k + 1) wires)
 collected [] k h = absurd (omega arith)
 collected (w ∷ wires) zero h = refl
-collected (w ∷ wires) (suc k) h = ap (λ t. value_part w.0 ∷ t) (collected wires k (omega arith))
+collected (w ∷ wires) (suc k) h =
+    let next : suc k + 1 ≡ suc (k + 1) = omega arith in
+    ap (λ t. value_part w.0 ∷ t) (collected wires k (omega arith)) ∙ ap (λ n. map (λ v. value_part v.0) (take n (w ∷ wires))) (sym next)
 
 pub few_collected : (wires : List WireNo) (k : ℕ) → k < length wires → length (map (λ w. value_part w.0) (take k wires)) ≡ k
 few_collected [] k h = absurd (omega arith)
@@ -94,7 +113,7 @@ few_collected (w ∷ wires) (suc k) h = ap suc (few_collected wires k (omega ari
 pub all_collected : (wires : List WireNo) (k : ℕ) → length wires ≤ k → take k wires ≡ wires
 all_collected [] k h = take_nil k
   where
-    take_nil : (k : ℕ) → take k [] ≡ []
+    take_nil : (k : ℕ) → take {A = WireNo} k [] ≡ []
     take_nil zero = refl
     take_nil (suc k) = refl
 all_collected (w ∷ wires) zero h = absurd (omega arith)
@@ -182,10 +201,10 @@ abbrev pub GivesState : NetData → ℕ → Block → List Bounds → Option Bou
 GivesState net i b known result =
     let r = block_rule net i b Y in result ≡ cond (r.fails known) None (if_state (r.bounds known))
 
-pub gain_returns : (net : NetData) (i : ℕ) (b : Block) (xty ty : Ty) (x : WireNo) (k : ℤ) (given : Given) (known : List Bounds) (result : Option Bounds) → b ≡ Gain xty ty x k → AreGiven given known → result ≡ if_small (gain_bounds k (λ p. given.first)) → GivesValue net i b known result
+pub gain_returns : (net : NetData) (i : ℕ) (b : Block) (xty ty : Ty) (x : WireNo) (k word : ℤ) (given : Given) (known : List Bounds) (result : Option Bounds) → b ≡ Gain xty ty x k → word ≡ k → AreGiven given known → result ≡ if_small (gain_bounds word (λ p. given.first)) → GivesValue net i b known result
 unfolding block_rule
-gain_returns net i b xty ty x k given known result is g e =
-    rw is (e ∙ ap if_small (ap (λ t. gain_bounds k (λ p. t)) g.first ∙ gain_bounds_of_one k (bounds_at known)))
+gain_returns net i b xty ty x k word given known result is same g e =
+    rw is (e ∙ ap (λ t. if_small (gain_bounds t (λ p. given.first))) same ∙ ap if_small (ap (λ t. gain_bounds k (λ p. t)) g.first ∙ gain_bounds_of_one k (bounds_at known)))
 
 pub average_returns : (net : NetData) (i : ℕ) (b : Block) (xty ty : Ty) (x : WireNo) (n : ℕ) (given : Given) (known : List Bounds) (result : Option Bounds) → b ≡ Average xty ty x n → AreGiven given known → result ≡ if_small (average_bounds (two given.first given.second)) → GivesValue net i b known result
 unfolding block_rule
@@ -202,17 +221,17 @@ unfolding block_rule
 dt1_returns net i b second xty ty x teq k given known result is g e =
     rw is (e ∙ ap if_small (ap (λ t. value_bounds (λ p. t)) g.first ∙ value_bounds_of_one (bounds_at known)))
 
-pub pt1_states : (net : NetData) (i : ℕ) (b : Block) (xty ty : Ty) (x : WireNo) (teq : ℕ) (k : ℤ) (given : Given) (known : List Bounds) (result : Option Bounds) → b ≡ Pt1 xty ty x teq k → AreGiven given known → result ≡ if_state (lag_bounds teq k (two given.first given.second)) → GivesState net i b known result
+pub pt1_states : (net : NetData) (i : ℕ) (b : Block) (xty ty : Ty) (x : WireNo) (teq : ℕ) (k word : ℤ) (given : Given) (known : List Bounds) (result : Option Bounds) → b ≡ Pt1 xty ty x teq k → word ≡ k → AreGiven given known → result ≡ if_state (lag_bounds teq word (two given.first given.second)) → GivesState net i b known result
 unfolding block_rule
-pt1_states net i b xty ty x teq k given known result is g e =
-    rw is (e ∙ rw (g.first, g.second) (ap if_state (lag_bounds_of_two teq k (bounds_at known))))
+pt1_states net i b xty ty x teq k word given known result is same g e =
+    rw is (e ∙ ap (λ t. if_state (lag_bounds teq t (two given.first given.second))) same ∙ rw (g.first, g.second) (ap if_state (lag_bounds_of_two teq k (bounds_at known))))
 
-pub dt1_states : (net : NetData) (i : ℕ) (b : Block) (second : Bool) (xty ty : Ty) (x : WireNo) (teq : ℕ) (k : ℤ) (given : Given) (known : List Bounds) (result : Option Bounds) → b ≡ Dt1 second xty ty x teq k → AreGiven given known → result ≡ if_state (difference_bounds teq k (three given.first given.second given.third)) → GivesState net i b known result
+pub dt1_states : (net : NetData) (i : ℕ) (b : Block) (second : Bool) (xty ty : Ty) (x : WireNo) (teq : ℕ) (k word : ℤ) (given : Given) (known : List Bounds) (result : Option Bounds) → b ≡ Dt1 second xty ty x teq k → word ≡ k → AreGiven given known → result ≡ if_state (difference_bounds teq word (three given.first given.second given.third)) → GivesState net i b known result
 unfolding block_rule
-dt1_states net i b true xty ty x teq k given known result is g e =
-    rw is (e ∙ rw (g.first, g.second, g.third) (ap if_state (difference_bounds_of_three teq k (bounds_at known))))
-dt1_states net i b false xty ty x teq k given known result is g e =
-    rw is (e ∙ rw (g.first, g.second, g.third) (ap if_state (difference_bounds_of_three teq k (bounds_at known))))
+dt1_states net i b true xty ty x teq k word given known result is same g e =
+    rw is (e ∙ ap (λ t. if_state (difference_bounds teq t (three given.first given.second given.third))) same ∙ rw (g.first, g.second, g.third) (ap if_state (difference_bounds_of_three teq k (bounds_at known))))
+dt1_states net i b false xty ty x teq k word given known result is same g e =
+    rw is (e ∙ ap (λ t. if_state (difference_bounds teq t (three given.first given.second given.third))) same ∙ rw (g.first, g.second, g.third) (ap if_state (difference_bounds_of_three teq k (bounds_at known))))
 
 -- a block without a state gives nothing of one
 pub stateless_gives : (net : NetData) (i : ℕ) (b : Block) (known : List Bounds) (result : Option Bounds) → state_rule_of i b ≡ no_rule → result ≡ None → GivesState net i b known result

@@ -48,9 +48,7 @@ fn reads_at(net: &Network, part: PartNo, other: PartNo) -> bool
 fn is_among(parts: &[Part], other: Part) -> bool
     ensures { result ≡ list_any (is_part other.wire.0 other.role) parts.now }
 {
-    parts
-        .iter()
-        .any(|part| part.wire.0 == other.wire.0 && same_role(part.role, other.role))
+    parts.iter().any(|part| part.wire.0 == other.wire.0 && same_role(part.role, other.role))
 }
 
 fn same_role(one: Role, other: Role) -> bool
@@ -81,6 +79,7 @@ fn source_read(source: WireNo, role: Role) -> Few<Part>
 }
 
 /// Of a block on a wire.
+#[tactic(auto, unfolding(crate::specs::Rules::block_rule))]
 fn block_reads(wire: WireNo, block: &Block, role: Role) -> Few<Part>
     ensures { (net : NetData) → result ≡ parts_in (block_rule net wire.0 block.now role).reads }
 {
@@ -110,7 +109,11 @@ fn state_reads(wire: WireNo, block: &Block) -> Few<Part>
     let last = part_on(wire, Role::X1);
     match *block {
         Block::Pt1 { .. } => two(state, last),
-        Block::Dt1 { second: true, x, .. } => three(state, part_on(x, Role::Value), last),
+        Block::Dt1 {
+            second: true,
+            x,
+            ..
+        } => three(state, part_on(x, Role::Value), last),
         Block::Dt1 { second: false, .. } => three(state, last, part_on(wire, Role::X2)),
         _ => none(),
     }
@@ -140,7 +143,13 @@ fn kept_part(wire: WireNo, block: &Block, role: Role) -> Part
 pub(crate) fn keeps(block: &Block, role: Role) -> bool
     ensures { result ≡ has_role role (block_roles block.now) }
 {
-    block.roles().iter().any(|other| same_role(*other, role))
+    has_role(block.roles(), role)
+}
+
+fn has_role(roles: &[Role], role: Role) -> bool
+    ensures { result ≡ list_any (λ r. same_role r role) roles.now }
+{
+    roles.iter().any(|other| same_role(*other, role))
 }
 
 /// The input of a block that keeps inputs, else the block's own wire.

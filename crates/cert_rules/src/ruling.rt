@@ -124,7 +124,8 @@ fn value_bounds(net: &Network, wire: WireNo, block: &Block, given: Given) -> Opt
         }
         Block::Gain { k, .. } => gain_bounds(k, first),
         Block::Average { .. } => average_bounds(first, second),
-        Block::Pt1 { .. } | Block::Dt1 { .. } => efx_rules::value_bounds(first),
+        Block::Pt1 { .. } => efx_rules::value_bounds(first),
+        Block::Dt1 { .. } => efx_rules::value_bounds(first),
     }
 }
 

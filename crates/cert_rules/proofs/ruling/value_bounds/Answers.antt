@@ -1,4 +1,5 @@
-use Rattle.std.proofs.Common.{ap, sym, inl, inr}
+use Rattle.std.proofs.Common.{ap, sym, inl, inr, rules, w32}
+use Rattle.std.proofs.lemmas.Int.{to_z-of_z}
 use Rattle.net_model.specs.Wires.{argument_of}
 use Rattle.cert_rules.proofs.BlockRules.{arith_returns, arith_there, scaled_points, scaled_returns}
 use Rattle.cert_rules.proofs.GivenFacts.{arith_small, average_returns, average_small, dt1_returns, dt1_state, gain_returns, gain_small, pt1_returns, pt1_state, scaled_small}
@@ -54,7 +55,19 @@ returns-in-Scaled c = λ known given.
     scaled_returns c.args.net.now c.args.wire.0 c.args.block.now _ _ _ _ _ c.args.given known _ c.in-Scaled.is (scaled_points c.args.net.now c.args.wire.0 c.args.block.now _ _ _ _ _ _ _ c.in-Scaled.is c.point_at.ensures.point c.point_at-in-Scaled.ensures.point c.point_at-in-Scaled-2.ensures.point) given c.form_bounds.ensures
 
 pub returns-in-Gain : goal.returns-in-Gain
-returns-in-Gain c = λ known given. gain_returns c.args.net.now c.args.wire.0 c.args.block.now _ _ _ _ c.args.given known _ c.in-Gain.is given c.gain_bounds.ensures
+returns-in-Gain c = λ known given. gain_returns c.args.net.now c.args.wire.0 c.args.block.now _ _ _ _ _ c.args.given known _ c.in-Gain.is (to_z-of_z w32 c.in-Gain.k (search rules)) given c.gain_bounds.ensures
 
 pub returns-in-Average : goal.returns-in-Average
 returns-in-Average c = λ known given. average_returns c.args.net.now c.args.wire.0 c.args.block.now _ _ _ _ c.args.given known _ c.in-Average.is given c.average_bounds.ensures
+
+pub value_bounds-requires : goal.value_bounds-requires
+value_bounds-requires c = pt1_state c.args.net.now c.args.wire.0 c.args.block.now _ _ _ _ _ c.args.given c.requires.sized c.in-Pt1.is
+
+pub value_bounds-requires-in-Dt1 : goal.value_bounds-requires-in-Dt1
+value_bounds-requires-in-Dt1 c = dt1_state c.args.net.now c.args.wire.0 c.args.block.now _ _ _ _ _ _ c.args.given c.requires.sized c.in-Dt1.is
+
+pub returns-in-Pt1 : goal.returns-in-Pt1
+returns-in-Pt1 c = λ known given. pt1_returns c.args.net.now c.args.wire.0 c.args.block.now _ _ _ _ _ c.args.given known _ c.in-Pt1.is given c.value_bounds.ensures
+
+pub returns-in-Dt1 : goal.returns-in-Dt1
+returns-in-Dt1 c = λ known given. dt1_returns c.args.net.now c.args.wire.0 c.args.block.now _ _ _ _ _ _ c.args.given known _ c.in-Dt1.is given c.value_bounds-in-Dt1.ensures
