@@ -56,6 +56,7 @@ fn first_narrow(net: &Network, entries: &[Bounds]) -> Option<PartNo>
 }
 
 /// How many parts there are: a valid network has so few that their numbers fit.
+#[tactic(auto, using(cert_rules::proofs::EntryFacts::count_fits))]
 fn part_count(net: &Network) -> u32
     ensures count { result ≡ length (parts_of net.now.wires) }
     ensures valid { IsValid net.now }
