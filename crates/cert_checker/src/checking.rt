@@ -55,7 +55,8 @@ fn first_narrow(net: &Network, entries: &[Bounds]) -> Option<PartNo>
     None
 }
 
-/// How many parts there are: no more than a network may have wires, so their numbers fit.
+/// How many parts there are: a valid network has so few that their numbers fit.
+#[tactic(auto, using(cert_rules::proofs::EntryFacts::count_fits))]
 fn part_count(net: &Network) -> u32
     ensures count { result ≡ length (parts_of net.now.wires) }
     ensures valid { IsValid net.now }
