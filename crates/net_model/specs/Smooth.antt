@@ -1,7 +1,7 @@
 -- Smooth networks: those that certificates are for.
 use Rattle.std.specs.Prelude.{◌≡◌, ℕ, ◌<◌, Bool, true, false, List, length, IsTrue}
 use Rattle.net_model.specs.declared.wires.Item.{Item}
-use Rattle.net_model.specs.declared.wires.Item.TheVariants.{Input, Const, Block as OfBlock}
+use Rattle.net_model.specs.declared.wires.Item.TheVariants.{Input, Const, Delay, Block as OfBlock}
 use Rattle.net_model.specs.declared.wires.Block.{Block}
 use Rattle.net_model.specs.declared.wires.Wire.{Wire}
 use Rattle.net_model.specs.BlockForms.{form_of, signature_in}
@@ -15,6 +15,7 @@ is_smooth_block b = (signature_in (form_of b)).smooth
 abbrev pub is_smooth : Item → Bool
 is_smooth (Input lo hi) = true
 is_smooth (Const value) = true
+is_smooth (Delay init source) = true
 is_smooth (OfBlock b) = is_smooth_block b
 
 -- a network is smooth where each wire is

@@ -9,7 +9,7 @@ use Rattle.net_model.specs.declared.wires.Kind.{Kind}
 use Rattle.net_model.specs.declared.wires.Kind.TheVariants.{Num, Truth as TruthKind}
 use Rattle.net_model.specs.declared.wires.Block.{Block}
 use Rattle.net_model.specs.declared.wires.Item.{Item}
-use Rattle.net_model.specs.declared.wires.Item.TheVariants.{Input, Const, Block as OfBlock}
+use Rattle.net_model.specs.declared.wires.Item.TheVariants.{Input, Const, Delay, Block as OfBlock}
 use Rattle.net_model.specs.declared.wires.Wire.{Wire}
 use Rattle.net_model.specs.declared.wires.WireNo.{WireNo}
 use Rattle.net_model.specs.declared.signatures.Sort.{Sort}
@@ -17,7 +17,7 @@ use Rattle.net_model.specs.declared.signatures.Sort.TheVariants.{Number, Truth}
 use Rattle.net_model.specs.declared.block_forms.Form.{Form}
 use Rattle.net_model.specs.Families.{is_built}
 use Rattle.net_model.specs.BlockForms.{both, in_ranges, form_of, signature_in, repeats_first, adds_no_number}
-use Rattle.net_model.specs.Wires.{NetData, wire_at, kind_least, kind_greatest, is_input}
+use Rattle.net_model.specs.Wires.{NetData, wire_at, kind_least, kind_greatest, is_input, window_sum}
 
 -- a binary point is at most 15
 abbrev pub is_good_kind : Kind → Bool
@@ -32,6 +32,12 @@ kind_holds kind v = int_le (kind_least kind) v && int_le v (kind_greatest kind)
 abbrev pub is_number_of : Ty → Kind → Bool
 is_number_of ty (Num t point) = same_type ty t
 is_number_of ty TruthKind = false
+
+-- two kinds are the same
+abbrev pub same_kind : Kind → Kind → Bool
+same_kind (Num t p) (Num u q) = same_type t u && (p == q)
+same_kind TruthKind TruthKind = true
+same_kind one other = false
 
 -- a wire of a sort
 abbrev pub is_of_sort : Sort → Kind → Bool
@@ -86,24 +92,29 @@ has_good_numbers b = numbers_fit (form_of b) && adds_no_number b
 abbrev pub is_built_item : Item → Bool
 is_built_item (Input lo hi) = true
 is_built_item (Const value) = true
+is_built_item (Delay init source) = true
 is_built_item (OfBlock b) = is_built_block b
 
--- what the item of wire i reads stands before it
+-- what the item of wire i reads of its own row stands before it
 abbrev pub item_reads_earlier : ℕ → Item → Bool
 item_reads_earlier i (Input lo hi) = true
 item_reads_earlier i (Const value) = true
+item_reads_earlier i (Delay init source) = true
 item_reads_earlier i (OfBlock b) = reads_earlier i b
 
--- the types of the item of a wire of this kind agree
+-- the types of the item of a wire of this kind agree; a delay's source is looked at behind all wires
 abbrev pub item_agrees : NetData → Kind → Item → Bool
 item_agrees net kind (Input lo hi) = true
 item_agrees net kind (Const value) = true
+item_agrees net kind (Delay init source) = true
 item_agrees net kind (OfBlock b) = agrees net kind b
 
--- a declared range isn't empty and lies in the kind, as does a constant; a block's numbers lie in their ranges
+-- a declared range isn't empty and lies in the kind, as do a constant and a delay's first value; a block's numbers lie in
+-- their ranges
 abbrev pub item_in_range : Kind → Item → Bool
 item_in_range kind (Input lo hi) = kind_holds kind lo && kind_holds kind hi && int_le lo hi
 item_in_range kind (Const value) = kind_holds kind value
+item_in_range kind (Delay init source) = kind_holds kind init
 item_in_range kind (OfBlock b) = has_good_numbers b
 
 -- wire i, with the whole network at hand
@@ -120,6 +131,25 @@ is_good_wire net i w =
 abbrev pub are_good_from : NetData → ℕ → List Wire → Bool
 are_good_from net i [] = true
 are_good_from net i (w ∷ rest) = is_good_wire net i w && are_good_from net (i + 1) rest
+
+-- ---- delays
+
+-- the source of a delay is a wire of the delay's very kind, anywhere in the network
+abbrev pub is_good_source : List Wire → Kind → WireNo → Bool
+is_good_source all kind source = nat_lt source.0 (length all) && same_kind kind (wire_at all source.0).kind
+
+-- what an item of this kind reads of the row before is a good source
+abbrev pub item_is_sourced : List Wire → Kind → Item → Bool
+item_is_sourced all kind (Input lo hi) = true
+item_is_sourced all kind (Const value) = true
+item_is_sourced all kind (Delay init source) = is_good_source all kind source
+item_is_sourced all kind (OfBlock b) = true
+
+-- so is what a wire reads of the row before
+abbrev pub is_sourced : List Wire → Wire → Bool
+is_sourced all w = item_is_sourced all w.kind w.item
+
+-- ---- networks
 
 -- no name comes twice
 abbrev pub are_distinct : List (List ℕ) → Bool
@@ -143,13 +173,20 @@ has_ends wires outs = list_any (λ w. is_input w.item) wires && nat_lt 0 (length
 abbrev pub most_wires : ℕ
 most_wires = 512
 
--- a network is valid where it has at most 512 wires, their names are distinct, each is good in its place, each
--- output is a wire and none stands twice, and there is at least one input and one output
+-- over how many rows the averages of a network may go together
+abbrev pub most_rows : ℕ
+most_rows = 65536
+
+-- a network is valid where it has at most 512 wires, whose averages go over at most 65536 rows together, their names are
+-- distinct, each is good in its place, the source of each delay is a wire of its kind, each output is a wire and none
+-- stands twice, and there is at least one input and one output
 unfoldable pub is_valid : NetData → Bool
 is_valid net =
     nat_le (length net.wires) most_wires
+    && nat_le (window_sum net.wires) most_rows
     && are_distinct (map (λ w. w.name) net.wires)
     && are_good_from net 0 net.wires
+    && list_all (is_sourced net.wires) net.wires
     && list_all (λ o. nat_lt o.0 (length net.wires)) net.outs
     && are_distinct_outs net.outs
     && has_ends net.wires net.outs

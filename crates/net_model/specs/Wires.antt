@@ -87,6 +87,23 @@ inputs_from i (w ∷ wires) = with_input w.item i (inputs_from (i + 1) wires)
 abbrev pub inputs_of : List Wire → List WireNo
 inputs_of wires = inputs_from 0 wires
 
+-- over how many rows a block takes the mean; 0 where it takes none
+abbrev pub window_in : Block → ℕ
+window_in (Average xty ty x n) = n
+window_in other = 0
+
+-- over how many rows a wire takes the mean
+abbrev pub window_of : Item → ℕ
+window_of (Input lo hi) = 0
+window_of (Const value) = 0
+window_of (Delay init source) = 0
+window_of (OfBlock b) = window_in b
+
+-- over how many rows the averages among wires go together
+abbrev pub window_sum : List Wire → ℕ
+window_sum [] = 0
+window_sum (w ∷ wires) = window_of w.item + window_sum wires
+
 -- the parts of a wire with a block, in order: its states, then its value
 abbrev pub block_roles : Block → List Role
 block_roles (Pt1 xty ty x teq k) = Y ∷ X1 ∷ Value ∷ []

@@ -1,16 +1,17 @@
 // The conditions of blocks, over their forms: a draft and a line of a text make the same tests.
 
-ghost use Rattle.std.specs.Prelude.{◌≡◌};
+ghost use Rattle.std.specs.Prelude.{◌≡◌, ◌<◌, IfSome, length};
 ghost use Rattle.net_model.specs.BlockForms.{in_range, in_ranges};
 ghost use Rattle.net_model.specs.Wires.{wire_at};
 ghost use Rattle.net_model.specs.Drafts.{data_of};
-ghost use Rattle.net_model.specs.Validity.{agrees, form_agrees, has_good_numbers, is_built_block, is_good_kind, is_of_sort, kind_holds, numbers_fit, reads_earlier, wires_agree, wires_earlier};
+ghost use Rattle.net_model.specs.Validity.{agrees, form_agrees, has_good_numbers, is_built_block, is_good_kind, is_good_source, is_of_sort, item_is_sourced, kind_holds, numbers_fit, reads_earlier, same_kind, wires_agree, wires_earlier};
+ghost use Rattle.net_model.specs.Faults.{first_unsourced};
 
 use crate::block_forms::{Form, adds_no_number, form_of, repeats_first};
 use crate::families::{is_built, signature_of};
 use crate::network::Draft;
 use crate::signatures::{Range, Sort};
-use crate::wires::{Block, Kind, Wire, WireNo};
+use crate::wires::{Block, Item, Kind, Wire, WireNo};
 use fx_core::Ty;
 use fx_routines::takes;
 
@@ -138,6 +139,45 @@ pub fn is_good_kind(kind: Kind) -> bool
     match kind {
         Kind::Num(_, point) => point <= GREATEST_POINT,
         Kind::Truth => true,
+    }
+}
+
+/// The first delay whose source isn't a wire of the delay's very kind, if there is one. The source may stand
+/// anywhere among the wires.
+pub fn first_unsourced(wires: &[Wire]) -> Option<usize>
+    ensures place { result ≡ first_unsourced wires.now }
+    ensures below { IfSome result (λ place. place < length wires.now) }
+{
+    wires.iter().position(|wire| !is_sourced(wires, wire.kind, wire.item))
+}
+
+fn is_sourced(all: &[Wire], kind: Kind, item: Item) -> bool
+    ensures { result ≡ item_is_sourced all.now kind item }
+{
+    match item {
+        Item::Delay { source, .. } => is_good_source(all, kind, source),
+        _ => true,
+    }
+}
+
+fn is_good_source(all: &[Wire], kind: Kind, source: WireNo) -> bool
+    ensures { result ≡ is_good_source all.now kind source }
+{
+    match all.get(source.0 as usize) {
+        Some(wire) => same_kind(kind, wire.kind),
+        None => false,
+    }
+}
+
+fn same_kind(one: Kind, other: Kind) -> bool
+    ensures { result ≡ same_kind one other }
+{
+    match (one, other) {
+        (Kind::Num(ty, point), Kind::Num(other_ty, other_point)) => {
+            ty == other_ty && point == other_point
+        }
+        (Kind::Truth, Kind::Truth) => true,
+        _ => false,
     }
 }
 

@@ -1,15 +1,15 @@
 // The conditions under which a draft is a network, tested in their order.
-ghost use Rattle.std.specs.Prelude.{◌≡◌, ◌<◌, ◌≤◌, ◌&&◌, [], OnOk, length, int_le, nat_lt, true};
+ghost use Rattle.std.specs.Prelude.{◌≡◌, ◌<◌, ◌≤◌, ◌*◌, ◌&&◌, [], OnOk, length, int_le, true};
 ghost use Rattle.std.specs.List.{list_any};
 ghost use Rattle.text_words.specs.Names.{is_name};
-ghost use Rattle.text_words.specs.Steps.{demand};
-ghost use Rattle.net_model.specs.Wires.{is_input, wire_at};
+ghost use Rattle.net_model.specs.Wires.{is_input, window_sum, wire_at};
 ghost use Rattle.net_model.specs.Validity.{has_ends, is_among, is_built_item, item_agrees, item_in_range, item_reads_earlier, kind_holds};
-ghost use Rattle.net_model.specs.Faults.{are_named, at_wire, ends_tested, has_name, out_tested, outs_tested, tested, wire_tested, wires_tested};
+ghost use Rattle.net_model.specs.Faults.{are_named, at_wire, ends_tested, has_name, has_room, out_tested, outs_tested, sources_tested, tested, wire_tested, wires_tested};
 ghost use Rattle.net_model.specs.Drafts.{data_of};
 
 use crate::conditions::{
-    agrees, has_good_numbers, is_built_block, is_good_kind, kind_holds, reads_earlier,
+    agrees, first_unsourced, has_good_numbers, is_built_block, is_good_kind, kind_holds,
+    reads_earlier,
 };
 use crate::network::{Draft, NetKind};
 use crate::wires::{Item, Kind, Wire, WireNo};
@@ -17,6 +17,9 @@ use text_words::demand;
 
 /// How many wires a network may have.
 pub const MOST_WIRES: usize = 512;
+
+/// Over how many rows the averages of a network may go together.
+pub const MOST_ROWS: u32 = 65_536;
 
 /// Where a draft breaks a condition, and which: the number of the wire, or the number of wires for a
 /// fault of no wire.
@@ -34,6 +37,7 @@ pub fn check_draft(draft: &Draft) -> Result<(), Fault>
     ensures named { OnOk result (are_named draft.now.wires.items ≡ true) }
 {
     check_wires(draft)?;
+    check_sources(&draft.wires)?;
     at_wire(draft.wires.len(), check_ends(draft))
 }
 
@@ -82,15 +86,29 @@ fn check_wire(draft: &Draft, i: usize) -> Result<(), NetKind>
         is_good_kind(*kind) && item_in_range(*kind, *item),
         NetKind::OutOfRange
     );
-    has_room(i)
+    demand(has_room(&draft.wires[..i], *item), NetKind::TooMany)
 }
 
-// Whether there is room for one more wire behind so many.
-fn has_room(wires: usize) -> Result<(), NetKind>
-    ensures value { result ≡ demand (nat_lt wires 512) NetKind.TooMany }
-    ensures room { OnOk result (wires < 512) }
+/// Whether there is room for one more wire behind those above: for the wire, and for the rows over which
+/// it takes the mean.
+pub fn has_room(above: &[Wire], item: Item) -> bool
+    ensures value { result ≡ has_room above.now item }
+    ensures room { result ≡ true → length above.now < 512 }
 {
-    demand(wires < MOST_WIRES, NetKind::TooMany)
+    above.len() < MOST_WIRES && window_sum(above) + u32::from(item.window()) <= MOST_ROWS
+}
+
+// Over how many rows the averages among wires go together.
+fn window_sum(wires: &[Wire]) -> u32
+    requires { length wires.now ≤ 512 }
+    ensures value { result ≡ window_sum wires.now }
+    ensures small { result ≤ 512 * 65535 }
+{
+    let mut rows = 0;
+    for i in 0..wires.len() {
+        rows += u32::from(wires[i].item.window());
+    }
+    rows
 }
 
 fn has_name(wires: &[Wire], name: &[u8]) -> bool
@@ -103,7 +121,7 @@ fn is_built_item(item: Item) -> bool
     ensures { result ≡ is_built_item item }
 {
     match item {
-        Item::Input { .. } | Item::Const { .. } => true,
+        Item::Input { .. } | Item::Const { .. } | Item::Delay { .. } => true,
         Item::Block(block) => is_built_block(block),
     }
 }
@@ -112,7 +130,7 @@ fn item_reads_earlier(i: usize, item: Item) -> bool
     ensures { result ≡ item_reads_earlier i item }
 {
     match item {
-        Item::Input { .. } | Item::Const { .. } => true,
+        Item::Input { .. } | Item::Const { .. } | Item::Delay { .. } => true,
         Item::Block(block) => reads_earlier(i, block),
     }
 }
@@ -121,7 +139,7 @@ fn item_agrees(draft: &Draft, kind: Kind, item: Item) -> bool
     ensures { result ≡ item_agrees (data_of draft.now) kind item }
 {
     match item {
-        Item::Input { .. } | Item::Const { .. } => true,
+        Item::Input { .. } | Item::Const { .. } | Item::Delay { .. } => true,
         Item::Block(block) => agrees(draft, kind, &block),
     }
 }
@@ -132,6 +150,7 @@ fn item_in_range(kind: Kind, item: Item) -> bool
     match item {
         Item::Input { lo, hi } => is_range(kind, lo, hi),
         Item::Const { value } => kind_holds(kind, value),
+        Item::Delay { init, .. } => kind_holds(kind, init),
         Item::Block(block) => has_good_numbers(&block),
     }
 }
@@ -141,6 +160,21 @@ pub fn is_range(kind: Kind, lo: i64, hi: i64) -> bool
     ensures { result ≡ (kind_holds kind lo && kind_holds kind hi && int_le lo hi) }
 {
     kind_holds(kind, lo) && kind_holds(kind, hi) && lo <= hi
+}
+
+// The tests of the delays' sources.
+#[tactic(auto, unfolding(crate::specs::Faults::sources_tested))]
+fn check_sources(wires: &[Wire]) -> Result<(), Fault>
+    requires { length wires.now ≤ 512 }
+    ensures { result ≡ sources_tested wires.now }
+{
+    match first_unsourced(wires) {
+        Some(wire) => Err(Fault {
+            wire: wire as u32,
+            kind: NetKind::TypeDiffers,
+        }),
+        None => Ok(()),
+    }
 }
 
 // The tests of no wire.

@@ -1,11 +1,13 @@
 // The families, one arm each: which routines are built, what a routine takes and gives, what a block
 // holds, and the block of what is given.
-ghost use Rattle.std.specs.Prelude.{◌≡◌, [], ◌∷◌, map, true};
+ghost use Rattle.std.specs.Prelude.{◌≡◌, [], ◌∷◌, map, pos, true};
 ghost use Rattle.fx_routines.specs.Names.{takes};
+ghost use Rattle.fx_routines.specs.Variants.{types};
+ghost use Rattle.fx_routines.specs.declared.table.Routine.TheVariants.{Filter as NamedFilter};
 ghost use Rattle.mfx_arith.specs.Operations.{argument_types, is_smooth_operation, unsigned_of};
 ghost use Rattle.mfx_scaled.specs.Operations.{argument_types as scaled_types};
 ghost use Rattle.net_model.specs.declared.signatures.Sort.TheVariants.{Number};
-ghost use Rattle.net_model.specs.Families.{arith_ranges, block_of, first_of, held_by, is_built, number_or_zero, signature_of, wire_or_first};
+ghost use Rattle.net_model.specs.Families.{arith_ranges, block_of, filter_ranges, first_of, held_by, is_built, number_or_zero, signature_of, wire_or_first};
 ghost use Rattle.net_model.specs.BlockForms.{in_ranges};
 
 use crate::block_forms::Form;
@@ -13,7 +15,7 @@ use crate::rooms::Few;
 use crate::signatures::{Range, Signature, Sort};
 use crate::wires::{Block, WireNo};
 use fx_core::Ty;
-use fx_routines::{ArithOp, Routine, ScaledOp, Types, Variant};
+use fx_routines::{ArithOp, FilterOp, Routine, ScaledOp, Types, Variant};
 
 /// Whether the routine is built as a block.
 pub fn is_built(routine: Routine) -> bool
@@ -21,15 +23,30 @@ pub fn is_built(routine: Routine) -> bool
 {
     match routine {
         Routine::Arith(op) => !matches!(op, ArithOp::Mod),
-        Routine::Scaled(_) => true,
+        Routine::Scaled(_) | Routine::Filter(_) => true,
         Routine::Bit(_) | Routine::Interpolation(_) => false,
-        Routine::Filter(_) | Routine::Control(_) | Routine::Switch(_) => false,
+        Routine::Control(_) | Routine::Switch(_) => false,
     }
 }
 
 const NO_RANGE: Range = Range { low: 0, high: 0 };
 
 const PLACES: Range = Range { low: 0, high: 15 };
+
+// A gain, with 16 fractional bits.
+const GAINS: Range = Range {
+    low: i32::MIN,
+    high: 2_147_483_647,
+};
+
+// The weight of an old state, in 1/65536.
+const WEIGHTS: Range = Range {
+    low: 0,
+    high: 65_536,
+};
+
+// Over how many rows an average goes.
+const COUNTS_OF_ROWS: Range = Range { low: 1, high: 1024 };
 
 /// The signature of a routine at its types. One that isn't built has an empty one.
 #[tactic(auto, unfolding(crate::specs::Families::signature_of))]
@@ -46,6 +63,12 @@ pub fn signature_of(routine: Routine, types: Types) -> Signature
         Routine::Scaled(op) => Signature {
             sorts: scaled_sorts(op, types),
             ranges: Few::of([NO_RANGE; 4], 0),
+            gives: Sort::Number(types.o),
+            smooth: true,
+        },
+        Routine::Filter(op) => Signature {
+            sorts: one(types.x),
+            ranges: filter_ranges(op),
             gives: Sort::Number(types.o),
             smooth: true,
         },
@@ -97,6 +120,19 @@ fn arith_ranges(op: ArithOp) -> Few<Range>
     match op {
         ArithOp::MulShRight | ArithOp::DivShLeft => Few::of([PLACES; 4], 1),
         _ => Few::of([NO_RANGE; 4], 0),
+    }
+}
+
+// The ranges of the numbers in the lines of a filter.
+fn filter_ranges(op: FilterOp) -> Few<Range>
+    ensures { result ≡ filter_ranges op }
+{
+    match op {
+        FilterOp::Gain => Few::of([GAINS; 4], 1),
+        FilterOp::Average => Few::of([COUNTS_OF_ROWS; 4], 1),
+        FilterOp::Pt1 | FilterOp::Dt1Typ1 | FilterOp::Dt1Typ2 => {
+            Few::of([WEIGHTS, GAINS, NO_RANGE, NO_RANGE], 2)
+        }
     }
 }
 
@@ -154,7 +190,60 @@ pub fn held_by(block: Block) -> Form
             wires: Few::of([x, y, x, x], 2),
             numbers: Few::of([0; 4], 0),
         },
+        Block::Gain { xty, ty, x, k } => Form {
+            routine: Routine::Filter(FilterOp::Gain),
+            types: filter_types(xty, ty),
+            wires: Few::of([x; 4], 1),
+            numbers: Few::of([i64::from(k); 4], 1),
+        },
+        Block::Average { xty, ty, x, n } => Form {
+            routine: Routine::Filter(FilterOp::Average),
+            types: filter_types(xty, ty),
+            wires: Few::of([x; 4], 1),
+            numbers: Few::of([i64::from(n); 4], 1),
+        },
+        Block::Pt1 { xty, ty, x, teq, k } => Form {
+            routine: Routine::Filter(FilterOp::Pt1),
+            types: filter_types(xty, ty),
+            wires: Few::of([x; 4], 1),
+            numbers: weight_and_gain(teq, k),
+        },
+        Block::Dt1 {
+            second,
+            xty,
+            ty,
+            x,
+            teq,
+            k,
+        } => Form {
+            routine: Routine::Filter(if second {
+                FilterOp::Dt1Typ2
+            } else {
+                FilterOp::Dt1Typ1
+            }),
+            types: filter_types(xty, ty),
+            wires: Few::of([x; 4], 1),
+            numbers: weight_and_gain(teq, k),
+        },
     }
+}
+
+// The types of a filter, which has one input.
+fn filter_types(xty: Ty, ty: Ty) -> Types
+    ensures { result ≡ types xty xty ty }
+{
+    Types {
+        x: xty,
+        y: xty,
+        o: ty,
+    }
+}
+
+// The numbers of a filter with a state.
+fn weight_and_gain(teq: u32, k: i32) -> Few<i64>
+    ensures { result ≡ pos teq ∷ k ∷ [] }
+{
+    Few::of([i64::from(teq), i64::from(k), 0, 0], 2)
 }
 
 /// The block of a form, one arm a family: at types that its routine takes, and with numbers in their
@@ -185,7 +274,46 @@ pub fn block_of(form: &Form) -> Block
             x,
             y,
         },
+        Routine::Filter(op) => filter_block(op, form.types, x, numbers),
         _ => unreachable!(),
+    }
+}
+
+// The block of a filter.
+fn filter_block(op: FilterOp, types: Types, x: WireNo, numbers: &[i64]) -> Block
+    requires { in_ranges (filter_ranges op) numbers.now ≡ true }
+    ensures { result ≡ block_of (record { routine = NamedFilter op; types = types; wires = x ∷ []; numbers = numbers.now }) }
+{
+    let xty = types.x;
+    let ty = types.o;
+    match op {
+        FilterOp::Gain => Block::Gain {
+            xty,
+            ty,
+            x,
+            k: number_or_zero(numbers, 0) as i32,
+        },
+        FilterOp::Average => Block::Average {
+            xty,
+            ty,
+            x,
+            n: number_or_zero(numbers, 0) as u16,
+        },
+        FilterOp::Pt1 => Block::Pt1 {
+            xty,
+            ty,
+            x,
+            teq: number_or_zero(numbers, 0) as u32,
+            k: number_or_zero(numbers, 1) as i32,
+        },
+        FilterOp::Dt1Typ1 | FilterOp::Dt1Typ2 => Block::Dt1 {
+            second: op == FilterOp::Dt1Typ2,
+            xty,
+            ty,
+            x,
+            teq: number_or_zero(numbers, 0) as u32,
+            k: number_or_zero(numbers, 1) as i32,
+        },
     }
 }
 

@@ -16,8 +16,8 @@ mod smoothness;
 mod wires;
 
 pub use block_forms::{Form, form_of};
-pub use conditions::{form_agrees, in_range, kind_holds};
-pub use draft_checks::{MOST_WIRES, has_ends, is_range};
+pub use conditions::{first_unsourced, form_agrees, in_range, kind_holds};
+pub use draft_checks::{MOST_ROWS, MOST_WIRES, has_ends, has_room, is_range};
 pub use families::{block_of, is_built, signature_of};
 pub use laws::law_of_drafts;
 pub use naming::{Name, NameFault};

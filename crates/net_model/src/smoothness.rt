@@ -20,7 +20,7 @@ fn is_smooth(item: Item) -> bool
     ensures { result ≡ is_smooth item }
 {
     match item {
-        Item::Input { .. } | Item::Const { .. } => true,
+        Item::Input { .. } | Item::Const { .. } | Item::Delay { .. } => true,
         Item::Block(block) => is_smooth_block(block),
     }
 }

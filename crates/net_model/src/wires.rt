@@ -89,13 +89,23 @@ pub enum Item {
 
 impl Item {
     ghost use Rattle.std.specs.Prelude.{◌≡◌};
-    ghost use Rattle.net_model.specs.Wires.{is_input, roles_of};
+    ghost use Rattle.net_model.specs.Wires.{is_input, roles_of, window_of};
 
     /// Whether the wire is an input.
     pub fn is_input(self) -> bool
         ensures { result ≡ is_input self }
     {
         matches!(self, Item::Input { .. })
+    }
+
+    /// Over how many rows the wire takes the mean; 0 where it takes none.
+    pub fn window(self) -> u16
+        ensures { result ≡ window_of self }
+    {
+        match self {
+            Item::Block(block) => block.window(),
+            _ => 0,
+        }
     }
 
     /// The parts of the wire, in order: its states, then its value.
@@ -111,7 +121,17 @@ impl Item {
 
 impl Block {
     ghost use Rattle.std.specs.Prelude.{◌≡◌};
-    ghost use Rattle.net_model.specs.Wires.{block_roles};
+    ghost use Rattle.net_model.specs.Wires.{block_roles, window_in};
+
+    /// Over how many rows the block takes the mean; 0 where it takes none.
+    pub fn window(self) -> u16
+        ensures { result ≡ window_in self }
+    {
+        match self {
+            Block::Average { n, .. } => n,
+            _ => 0,
+        }
+    }
 
     /// The parts of a wire with this block, in order: its states, then its value.
     pub fn roles(self) -> &'static [Role]
