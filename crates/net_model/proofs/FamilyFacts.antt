@@ -1,6 +1,6 @@
 -- What is proved of the families, one case each: a built routine reads a wire, is smooth and has short numbers; a block is the
 -- block of its form, and the form of a form's block is that form.
-use Rattle.std.proofs.Common.{◌≡◌, ℕ, zero, ◌+◌, ◌<◌, ◌≤◌, Bool, true, false, ◌&&◌, ◌==◌, int_le, List, [], ◌∷◌, suc, map, length, take, drop, get_or, ℤ, pos, negsuc, unsigned_abs, refl, sym, ap, ap₂, ◌∙◌, arith, eqb-true, true≢false, eq-eqb, nat_le, leb-true, ◌^◌}
+use Rattle.std.proofs.Common.{◌≡◌, ℕ, zero, ◌+◌, ◌<◌, ◌≤◌, Bool, true, false, ◌&&◌, ◌==◌, int_le, List, [], ◌∷◌, suc, map, length, take, drop, get_or, ℤ, pos, negsuc, unsigned_abs, refl, sym, ap, ap₂, ◌∙◌, arith, eqb-true, true≢false, eq-eqb, nat_le, leb-true, ◌^◌, cond, is_some, Some, None}
 use Rattle.std.specs.List.{list_all}
 use Rattle.std.specs.Ordering.{int_eq}
 use Rattle.std.proofs.lemmas.Bool.{and_parts, and_from}
@@ -10,16 +10,26 @@ use Rattle.fx_routines.specs.declared.operation.ArithOp.TheVariants.{Abs, Mod, M
 use Rattle.fx_routines.specs.declared.operation.ScaledOp.{ScaledOp}
 use Rattle.fx_routines.specs.declared.operation.ScaledOp.TheVariants.{Convert}
 use Rattle.fx_routines.specs.declared.operation.Types.{Types}
+use Rattle.fx_routines.specs.declared.control.FilterOp.{FilterOp}
+use Rattle.fx_routines.specs.declared.control.FilterOp.TheVariants as filter
+use Rattle.fx_routines.specs.Names.{row_of, takes}
+use Rattle.fx_routines.specs.Rows.{Row, rows}
+use Rattle.fx_routines.specs.Variants.{types, same_type}
+use Rattle.fx_core.specs.declared.word_type.Ty.{Ty}
+use Rattle.fx_core.specs.contracts.word_type.Ty.{the_type}
+use denote.Enum.Bare.{same_true}
 use Rattle.fx_routines.specs.declared.table.Routine.{Routine}
-use Rattle.fx_routines.specs.declared.table.Routine.TheVariants.{Arith as NamedArith, Scaled as NamedScaled}
+use Rattle.fx_routines.specs.declared.table.Routine.TheVariants.{Arith as NamedArith, Scaled as NamedScaled, Filter as NamedFilter}
 use Rattle.mfx_arith.specs.Operations.{is_smooth_operation, argument_types}
 use Rattle.mfx_scaled.specs.Operations.{argument_types as scaled_types}
 use Rattle.net_model.specs.declared.wires.WireNo.{WireNo}
 use Rattle.net_model.specs.declared.wires.Block.{Block}
-use Rattle.net_model.specs.declared.wires.Block.TheVariants.{Arith, Scaled}
+use Rattle.net_model.specs.declared.wires.Block.TheVariants.{Arith, Scaled, Gain, Average, Pt1, Dt1}
 use Rattle.net_model.specs.declared.signatures.Sort.TheVariants.{Number}
 use Rattle.net_model.specs.declared.block_forms.Form.{Form}
-use Rattle.net_model.specs.Families.{is_built, signature_of, arith_ranges, held_by, first_of, wire_or_first, number_or_zero, block_of, most_shift, between}
+use Rattle.net_model.specs.Families.{is_built, signature_of, arith_ranges, filter_ranges, gains, weights, counts_of_rows, held_by, first_of, wire_or_first, number_or_zero, block_of, most_shift, between}
+use Rattle.net_model.specs.declared.wires.Role.TheVariants.{Value}
+use Rattle.net_model.specs.Wires.{block_roles, has_role}
 use Rattle.net_model.specs.BlockForms.{in_range, in_ranges, signature_in, form_of, repeats_first, adds_no_number}
 use Rattle.net_model.specs.Validity.{is_built_block}
 use Rattle.net_model.specs.Smooth.{is_smooth_block}
@@ -70,6 +80,7 @@ pub reads_some : (routine : Routine) (v : Types) → is_built routine ≡ true �
 unfolding signature_of
 reads_some (NamedArith op) v built = arith_reads_some op v
 reads_some (NamedScaled op) v built = scaled_reads_some op v
+reads_some (NamedFilter op) v built = omega arith
 reads_some other v built = absurd (true≢false (sym built))
 
 -- ---- smoothness
@@ -84,6 +95,10 @@ pub smooth_if_built : (b : Block) → is_built_block b ≡ true → is_smooth_bl
 unfolding form_of signature_of
 smooth_if_built (Arith op v x y z sh) built = ruled_if_built op built
 smooth_if_built (Scaled op v x y) built = refl
+smooth_if_built (Gain xty ty x k) built = refl
+smooth_if_built (Average xty ty x n) built = refl
+smooth_if_built (Pt1 xty ty x teq k) built = refl
+smooth_if_built (Dt1 second xty ty x teq k) built = refl
 
 -- ---- ranges
 
@@ -96,12 +111,35 @@ arith_ranges_are_short MulShRight = refl
 arith_ranges_are_short DivShLeft = refl
 arith_ranges_are_short other = refl
 
+filter_ranges_are_short : (op : FilterOp) → list_all is_short (filter_ranges op) ≡ true
+filter_ranges_are_short filter.Gain = refl
+filter_ranges_are_short filter.Average = refl
+filter_ranges_are_short other = refl
+
 -- the numbers of a routine's line are short
 pub ranges_are_short : (routine : Routine) (v : Types) → list_all is_short (signature_of routine v).ranges ≡ true
 unfolding signature_of
 ranges_are_short (NamedArith op) v = arith_ranges_are_short op
 ranges_are_short (NamedScaled op) v = refl
+ranges_are_short (NamedFilter op) v = filter_ranges_are_short op
 ranges_are_short other v = refl
+
+-- ---- parts
+
+-- a wire with a block has its value, and few parts
+pub block_has_value : (b : Block) → has_role Value (block_roles b) ≡ true
+block_has_value (Pt1 xty ty x teq k) = refl
+block_has_value (Dt1 true xty ty x teq k) = refl
+block_has_value (Dt1 false xty ty x teq k) = refl
+block_has_value (Average xty ty x n) = refl
+block_has_value other = refl
+
+pub few_block_roles : (b : Block) → length (block_roles b) ≤ 4
+few_block_roles (Pt1 xty ty x teq k) = omega arith
+few_block_roles (Dt1 true xty ty x teq k) = omega arith
+few_block_roles (Dt1 false xty ty x teq k) = omega arith
+few_block_roles (Average xty ty x n) = omega arith
+few_block_roles other = omega arith
 
 -- ---- a block, from its form
 
@@ -130,7 +168,7 @@ number_back numbers n p d h lt = left_out (λ k. int_eq k (pos 0)) (pos 0) d (λ
 
 -- a block whose spare places are the usual ones is that of its form
 pub block_back : (b : Block) → repeats_first b ≡ true → adds_no_number b ≡ true → block_of (form_of b) ≡ b
-unfolding form_of block_of
+unfolding form_of block_of signature_of
 block_back (Arith op v x y z sh) repeats adds =
     let sorts = length (signature_of (NamedArith op) v).sorts in
     let wires = x ∷ y ∷ z ∷ [] in
@@ -141,6 +179,11 @@ block_back (Scaled op v x y) repeats adds =
     let sorts = length (signature_of (NamedScaled op) v).sorts in
     let wires = x ∷ y ∷ [] in
     ap₂ (λ a b. Scaled op v a b) (wire_back wires sorts 0 x repeats (omega arith)) (wire_back wires sorts 1 x repeats (omega arith))
+block_back (Gain xty ty x k) repeats adds = refl
+block_back (Average xty ty x n) repeats adds = refl
+block_back (Pt1 xty ty x teq k) repeats adds = refl
+block_back (Dt1 true xty ty x teq k) repeats adds = refl
+block_back (Dt1 false xty ty x teq k) repeats adds = refl
 
 -- ---- a form, from its block
 
@@ -176,6 +219,7 @@ from_zero f p = let e : 0 + p ≡ p = omega arith in ap f e
 -- what a form of a built routine keeps
 pub record IsFull (form : Form) : Type 0 where
   pub built : is_built form.routine ≡ true
+  pub taken : takes form.routine form.types ≡ true
   pub wires : length (signature_in form).sorts ≡ length form.wires
   pub numbers : in_ranges (signature_in form).ranges form.numbers ≡ true
 
@@ -286,9 +330,101 @@ full_scaled op v wires numbers is =
       adds = refl;
     }
 
+-- the row of a filter
+one_input : (row : Row) (v : Types) → is_some (cond (same_type v.y v.x && true) (Some row) None) ≡ true → v.x ≡ v.y
+one_input row v h = by (same_type v.y v.x) refl h
+  where
+    by : (t : Bool) → same_type v.y v.x ≡ t → is_some (cond (t && true) (Some row) None) ≡ true → v.x ≡ v.y
+    by true e h = sym (same_true the_type tt v.y v.x e)
+    by false e h = absurd (cc)
+
+-- a filter has one input
+filter_input : (op : FilterOp) (v : Types) → takes (NamedFilter op) v ≡ true → v.x ≡ v.y
+unfolding row_of rows
+filter_input filter.Gain v h = one_input _ v h
+filter_input filter.Average v h = one_input _ v h
+filter_input filter.Pt1 v h = one_input _ v h
+filter_input filter.Dt1Typ1 v h = one_input _ v h
+filter_input filter.Dt1Typ2 v h = one_input _ v h
+
+-- one wire, one number, two numbers
+one_wire : (wires : List WireNo) → 1 ≡ length wires → first_of wires ∷ [] ≡ wires
+one_wire [] e = absurd (omega arith)
+one_wire (w ∷ []) e = refl
+one_wire (w ∷ v ∷ wires) e = absurd (omega arith)
+
+one_number : (numbers : List ℤ) → 1 ≡ length numbers → number_or_zero numbers 0 ∷ [] ≡ numbers
+one_number [] e = absurd (omega arith)
+one_number (n ∷ []) e = refl
+one_number (n ∷ m ∷ numbers) e = absurd (omega arith)
+
+two_numbers : (numbers : List ℤ) → 2 ≡ length numbers → number_or_zero numbers 0 ∷ number_or_zero numbers 1 ∷ [] ≡ numbers
+two_numbers [] e = absurd (omega arith)
+two_numbers (n ∷ []) e = absurd (omega arith)
+two_numbers (n ∷ m ∷ []) e = refl
+two_numbers (n ∷ m ∷ k ∷ numbers) e = absurd (omega arith)
+
+-- a first number whose range has none below 0
+first_natural : (low high : ℕ) (rest : List Range) (numbers : List ℤ) → in_ranges (between (pos low) high ∷ rest) numbers ≡ true → pos (unsigned_abs (number_or_zero numbers 0)) ≡ number_or_zero numbers 0
+first_natural low high rest [] h = refl
+first_natural low high rest (pos n ∷ numbers) h = refl
+first_natural low high rest (negsuc n ∷ numbers) h = absurd (cc)
+
+-- a filter's form, from what it has
+filter_back : (op : FilterOp) (v : Types) (wires : List WireNo) (numbers found : List ℤ) → takes (NamedFilter op) v ≡ true → 1 ≡ length wires → found ≡ numbers
+    → of (NamedFilter op) (types v.x v.x v.o) (first_of wires ∷ []) found ≡ of (NamedFilter op) v wires numbers
+filter_back op v wires numbers found taken count same =
+    ap (λ y. of (NamedFilter op) (types v.x y v.o) (first_of wires ∷ []) found) (filter_input op v taken)
+    ∙ ap₂ (of (NamedFilter op) v) (one_wire wires count) same
+
+-- a weight and a gain
+weight_and_gain : (numbers : List ℤ) → in_ranges (weights ∷ gains ∷ []) numbers ≡ true → pos (unsigned_abs (number_or_zero numbers 0)) ∷ number_or_zero numbers 1 ∷ [] ≡ numbers
+weight_and_gain numbers h =
+    ap (λ n. n ∷ number_or_zero numbers 1 ∷ []) (first_natural 0 65536 (gains ∷ []) numbers h)
+    ∙ two_numbers numbers (same_lengths in_range (weights ∷ gains ∷ []) numbers h)
+
+full_filter : (op : FilterOp) (v : Types) (wires : List WireNo) (numbers : List ℤ) → IsFull (of (NamedFilter op) v wires numbers) → IsBlockOf (of (NamedFilter op) v wires numbers) (block_of (of (NamedFilter op) v wires numbers))
+unfolding form_of block_of signature_of
+full_filter filter.Gain v wires numbers is = record {
+  routine = refl;
+  types = ap (λ y. types v.x y v.o) (filter_input filter.Gain v is.taken);
+  back = filter_back filter.Gain v wires numbers _ is.taken is.wires (one_number numbers (same_lengths in_range (gains ∷ []) numbers is.numbers));
+  repeats = refl;
+  adds = refl;
+}
+full_filter filter.Average v wires numbers is = record {
+  routine = refl;
+  types = ap (λ y. types v.x y v.o) (filter_input filter.Average v is.taken);
+  back = filter_back filter.Average v wires numbers _ is.taken is.wires (ap (λ n. n ∷ []) (first_natural 1 1024 [] numbers is.numbers) ∙ one_number numbers (same_lengths in_range (counts_of_rows ∷ []) numbers is.numbers));
+  repeats = refl;
+  adds = refl;
+}
+full_filter filter.Pt1 v wires numbers is = record {
+  routine = refl;
+  types = ap (λ y. types v.x y v.o) (filter_input filter.Pt1 v is.taken);
+  back = filter_back filter.Pt1 v wires numbers _ is.taken is.wires (weight_and_gain numbers is.numbers);
+  repeats = refl;
+  adds = refl;
+}
+full_filter filter.Dt1Typ1 v wires numbers is = record {
+  routine = refl;
+  types = ap (λ y. types v.x y v.o) (filter_input filter.Dt1Typ1 v is.taken);
+  back = filter_back filter.Dt1Typ1 v wires numbers _ is.taken is.wires (weight_and_gain numbers is.numbers);
+  repeats = refl;
+  adds = refl;
+}
+full_filter filter.Dt1Typ2 v wires numbers is = record {
+  routine = refl;
+  types = ap (λ y. types v.x y v.o) (filter_input filter.Dt1Typ2 v is.taken);
+  back = filter_back filter.Dt1Typ2 v wires numbers _ is.taken is.wires (weight_and_gain numbers is.numbers);
+  repeats = refl;
+  adds = refl;
+}
+
 full_form : (routine : Routine) (v : Types) (wires : List WireNo) (numbers : List ℤ) → IsFull (of routine v wires numbers) → IsBlockOf (of routine v wires numbers) (block_of (of routine v wires numbers))
 full_form (NamedArith op) v wires numbers is = full_arith op v wires numbers is
 full_form (NamedScaled op) v wires numbers is = full_scaled op v wires numbers is
+full_form (NamedFilter op) v wires numbers is = full_filter op v wires numbers is
 full_form other v wires numbers is = absurd (true≢false (sym is.built))
 
 -- the form of a full form's block is that form, and its spare places are the usual ones

@@ -4,7 +4,7 @@ use Rattle.std.proofs.lemmas.List.{map-append, take_all}
 use Rattle.net_model.specs.declared.wires.WireNo.{WireNo}
 use Rattle.net_model.specs.declared.wires.PartNo.{PartNo}
 use Rattle.net_model.specs.declared.wires.Item.{Item}
-use Rattle.net_model.specs.declared.wires.Item.TheVariants.{Input, Const, Block as OfBlock}
+use Rattle.net_model.specs.declared.wires.Item.TheVariants.{Input, Const, Delay, Block as OfBlock}
 use Rattle.net_model.specs.declared.wires.Wire.{Wire}
 use Rattle.net_model.specs.declared.wires.Role.{Role}
 use Rattle.net_model.specs.declared.wires.Part.{Part}
@@ -18,11 +18,13 @@ drop-wires wires i lt = drop-cons wires i no_wire lt ∙ ap (λ k. wire_at wires
 with_input-true : (item : Item) (i : ℕ) (rest : List WireNo) → is_input item ≡ true → with_input item i rest ≡ record { 0 = i } ∷ rest
 with_input-true (Input lo hi) i rest h = refl
 with_input-true (Const value) i rest h = absurd (cc)
+with_input-true (Delay init source) i rest h = absurd (cc)
 with_input-true (OfBlock b) i rest h = absurd (cc)
 
 with_input-false : (item : Item) (i : ℕ) (rest : List WireNo) → is_input item ≡ false → with_input item i rest ≡ rest
 with_input-false (Input lo hi) i rest h = absurd (cc)
 with_input-false (Const value) i rest h = refl
+with_input-false (Delay init source) i rest h = refl
 with_input-false (OfBlock b) i rest h = refl
 
 inputs_from-step : (wires : List Wire) (i : ℕ) → i < length wires → inputs_from i (drop i wires) ≡ with_input (wire_at wires i).item i (inputs_from (i + 1) (drop (i + 1) wires))

@@ -8,13 +8,14 @@ use Rattle.std.proofs.lemmas.List.{length-map}
 use Rattle.std.proofs.lemmas.List.Recursion.{is_position_or_len}
 use Rattle.net_model.specs.declared.wires.PartNo.{PartNo}
 use Rattle.net_model.specs.declared.wires.Item.{Item}
-use Rattle.net_model.specs.declared.wires.Item.TheVariants.{Input, Const, Block as OfBlock}
+use Rattle.net_model.specs.declared.wires.Item.TheVariants.{Input, Const, Delay, Block as OfBlock}
 use Rattle.net_model.specs.declared.wires.Wire.{Wire}
 use Rattle.net_model.specs.declared.wires.Role.{Role}
-use Rattle.net_model.specs.declared.wires.Role.TheVariants.{Value}
+use Rattle.net_model.specs.declared.wires.Role.TheVariants.{Y, X1, X2, W, Value}
 use Rattle.net_model.specs.declared.wires.Part.{Part}
 use Rattle.net_model.specs.Wires.{NetData, wire_at, same_role, roles_of, parts_from, parts_of, firsts_from, first_at, no_part, place_in, has_role, role_place, part_number}
 use Rattle.net_model.specs.Validity.{IsValid}
+use Rattle.net_model.proofs.FamilyFacts.{block_has_value, few_block_roles}
 use Rattle.net_model.proofs.ValidityFacts.{length-valid}
 
 -- ---- roles, one line each
@@ -23,17 +24,28 @@ use Rattle.net_model.proofs.ValidityFacts.{length-valid}
 pub has_role-value : (item : Item) → has_role Value (roles_of item) ≡ true
 has_role-value (Input lo hi) = refl
 has_role-value (Const value) = refl
-has_role-value (OfBlock b) = refl
+has_role-value (Delay init source) = refl
+has_role-value (OfBlock b) = block_has_value b
 
 pub few_roles : (item : Item) → length (roles_of item) ≤ 4
 few_roles (Input lo hi) = omega arith
 few_roles (Const value) = omega arith
-few_roles (OfBlock b) = omega arith
+few_roles (Delay init source) = omega arith
+few_roles (OfBlock b) = few_block_roles b
 
 pub same_role-true : (r s : Role) → same_role r s ≡ true → r ≡ s
+same_role-true Y Y e = refl
+same_role-true X1 X1 e = refl
+same_role-true X2 X2 e = refl
+same_role-true W W e = refl
 same_role-true Value Value e = refl
+same_role-true r s e = absurd (true≢false (sym e))
 
 pub same_role-itself : (r : Role) → same_role r r ≡ true
+same_role-itself Y = refl
+same_role-itself X1 = refl
+same_role-itself X2 = refl
+same_role-itself W = refl
 same_role-itself Value = refl
 
 -- ---- how many parts there are

@@ -1,7 +1,9 @@
 -- A draft passes its tests exactly where its network is valid.
-use Rattle.std.proofs.Common.{add-one, drop-cons, drop_of_length-le, ltb-true, ltb-false, true≢false, ◌||◌, ◌≡◌, ℕ, zero, suc, ◌+◌, ◌<◌, ◌≤◌, Bool, true, false, not, ◌&&◌, List, [], ◌∷◌, ◌++◌, map, length, get_or, take, drop, nat_lt, nat_le, le-leb, refl, sym, ap, ap₂, ◌∙◌, Result, Ok, Err, bytes_eq, arith}
+use Rattle.std.proofs.Common.{add-one, zero-add, leb-true, leb-false, cond, Some, drop-cons, drop_of_length-le, ltb-true, ltb-false, true≢false, ◌||◌, ◌≡◌, ℕ, zero, suc, ◌+◌, ◌<◌, ◌≤◌, Bool, true, false, not, ◌&&◌, List, [], ◌∷◌, ◌++◌, map, length, get_or, take, drop, nat_lt, nat_le, le-leb, refl, sym, ap, ap₂, ◌∙◌, Result, Ok, Err, bytes_eq, arith}
 use Rattle.std.specs.Prelude.{is_ok}
-use Rattle.std.specs.List.{list_any, list_all}
+use Rattle.std.specs.List.{list_any, list_all, position_from}
+use Rattle.std.proofs.lemmas.Iterator.Adapters.{position_from-zero}
+use Rattle.std.proofs.lemmas.List.{length-take-le, take_all}
 use Rattle.std.proofs.lemmas.Bool.{lt-leb, and_parts, and_from}
 use Rattle.text_words.specs.Names.{is_name}
 use Rattle.text_words.specs.Steps.{◌>>=◌, demand}
@@ -10,9 +12,9 @@ use Rattle.net_model.specs.declared.network.NetKind.TheVariants.{Repeated, NotBu
 use Rattle.net_model.specs.declared.draft_checks.Fault.{Fault}
 use Rattle.net_model.specs.declared.wires.WireNo.{WireNo}
 use Rattle.net_model.specs.declared.wires.Wire.{Wire}
-use Rattle.net_model.specs.Wires.{NetData, no_wire}
-use Rattle.net_model.specs.Validity.{IsValid, is_valid, is_good_wire, is_good_kind, is_built_item, item_reads_earlier, item_agrees, item_in_range, are_good_from, are_distinct, is_among, are_distinct_outs, has_ends}
-use Rattle.net_model.specs.Faults.{are_named, has_name, wire_tested, at_wire, wires_tested, out_tested, outs_tested, ends_tested, tested}
+use Rattle.net_model.specs.Wires.{NetData, no_wire, window_of, window_sum}
+use Rattle.net_model.specs.Validity.{IsValid, is_valid, is_good_wire, is_good_kind, is_sourced, is_built_item, item_reads_earlier, item_agrees, item_in_range, are_good_from, are_distinct, is_among, are_distinct_outs, has_ends}
+use Rattle.net_model.specs.Faults.{are_named, has_name, has_room, unsourced_at, sources_tested, wire_tested, at_wire, wires_tested, out_tested, outs_tested, ends_tested, tested}
 use Rattle.net_model.specs.Laws.{TestsDecideValidity}
 use Rattle.net_model.proofs.ValidityFacts.{conditions, name_of_good}
 use Rattle.net_model.proofs.DraftLemmas.{distinct, new_from, good_from, apart-nil, new_from-is, remains, remains-zero, remains-step, remains-end, same_name, same_name_comm, same_number, same_number_comm}
@@ -54,15 +56,19 @@ regroup_tests true true false c d k r m h = refl
 regroup_tests a false b c d k r m h = absurd (true≢false (sym h))
 regroup_tests false true b c d k r m h = refl
 
+-- there is room for wire i behind those before it
+room_at : List Wire → ℕ → Wire → Bool
+room_at wires i w = has_room (take i wires) w.item
+
 -- the wire is good in its place, and there is room for it
 good_place : NetData → ℕ → Wire → Bool
-good_place net i w = is_good_wire net i w && nat_lt i 512
+good_place net i w = is_good_wire net i w && room_at net.wires i w
 
 wire_passes : (net : NetData) (i : ℕ) (w : Wire) → is_name w.name ≡ true → is_ok (wire_tested net i w) ≡ (not (list_any (same_name w) (take i net.wires)) && good_place net i w)
-unfolding wire_tested six_tests same_name good_place
+unfolding wire_tested six_tests same_name good_place room_at
 wire_passes net i w named =
-    six_tests_pass (not (has_name (take i net.wires) w.name)) (is_built_item w.item) (item_reads_earlier i w.item) (item_agrees net w.kind w.item) (is_good_kind w.kind && item_in_range w.kind w.item) (nat_lt i 512)
-    ∙ regroup_tests (not (has_name (take i net.wires) w.name)) (is_name w.name) (is_built_item w.item) (item_reads_earlier i w.item) (item_agrees net w.kind w.item) (is_good_kind w.kind) (item_in_range w.kind w.item) (nat_lt i 512) named
+    six_tests_pass (not (has_name (take i net.wires) w.name)) (is_built_item w.item) (item_reads_earlier i w.item) (item_agrees net w.kind w.item) (is_good_kind w.kind && item_in_range w.kind w.item) (has_room (take i net.wires) w.item)
+    ∙ regroup_tests (not (has_name (take i net.wires) w.name)) (is_name w.name) (is_built_item w.item) (item_reads_earlier i w.item) (item_agrees net w.kind w.item) (is_good_kind w.kind) (item_in_range w.kind w.item) (has_room (take i net.wires) w.item) named
 
 -- ---- all wires
 
@@ -95,48 +101,100 @@ wires_pass net (suc k) i e named =
     ∙ ap₂ (λ t u. t && u) (wire_passes net i here (name_at net.wires i named lt)) (wires_pass net k (i + 1) next named)
     ∙ sym (remains-step same_name (good_place net) no_wire net.wires i lt)
 
--- the wires are good where they are in their places and there is room for all
-regroup_room : (g r b t : Bool) → ((g && r) && (b && t)) ≡ ((g && b) && (r && t))
-regroup_room true true b t = refl
-regroup_room true false true t = refl
-regroup_room true false false t = refl
-regroup_room false r b t = refl
+-- ---- room for all
 
--- tests of numbers, as facts
-next_by_test : (i : ℕ) → nat_lt i 512 ≡ true → i + 1 ≤ 512
-next_by_test i e = let lt : i < 512 = ltb-true _ _ e in omega arith
+-- two tests of each place are the one and the other
+regroup_both : (a b c d : Bool) → ((a && b) && (c && d)) ≡ ((a && c) && (b && d))
+regroup_both true true c d = refl
+regroup_both true false true d = refl
+regroup_both true false false d = refl
+regroup_both false b c d = refl
 
-past_by_test : (i n : ℕ) → nat_lt i 512 ≡ false → 512 < i + suc n
-past_by_test i n e = let past : 512 ≤ i = ltb-false _ _ e in omega arith
-
-shut : (g t : Bool) → ((g && false) && t) ≡ false
-shut true t = refl
-shut false t = refl
-
-shut_last : (g : Bool) → (g && false) ≡ false
-shut_last true = refl
-shut_last false = refl
-
--- what holds of the wires from place i on
-abbrev GoodFrom : NetData → ℕ → List Wire → Type 0
-GoodFrom net i rest = good_from (good_place net) i rest ≡ (are_good_from net i rest && nat_le (i + length rest) 512)
-
-good_by_test : (net : NetData) (i : ℕ) (w : Wire) (rest : List Wire) → (i + 1 ≤ 512 → GoodFrom net (i + 1) rest) → (b : Bool) → nat_lt i 512 ≡ b → GoodFrom net i (w ∷ rest)
-unfolding good_from good_place
-good_by_test net i w rest later true e =
-    let moved : i + 1 + length rest ≡ i + suc (length rest) = omega arith in
-    ap₂ (λ r t. (is_good_wire net i w && r) && t) e (later (next_by_test i e))
-    ∙ regroup_room (is_good_wire net i w) true (are_good_from net (i + 1) rest) (nat_le (i + 1 + length rest) 512)
-    ∙ ap (λ n. (is_good_wire net i w && are_good_from net (i + 1) rest) && nat_le n 512) moved
-good_by_test net i w rest later false e =
-    ap (λ r. (is_good_wire net i w && r) && good_from (good_place net) (i + 1) rest) e
-    ∙ shut (is_good_wire net i w) (good_from (good_place net) (i + 1) rest)
-    ∙ sym (ap (λ t. (is_good_wire net i w && are_good_from net (i + 1) rest) && t) (lt-leb (i + suc (length rest)) 512 (past_by_test i (length rest) e)) ∙ shut_last (is_good_wire net i w && are_good_from net (i + 1) rest))
-
-good_wires : (net : NetData) (i : ℕ) (rest : List Wire) → i ≤ 512 → GoodFrom net i rest
+pass_both : (a b both : ℕ → Wire → Bool) → ((i : ℕ) (w : Wire) → both i w ≡ (a i w && b i w)) → (i : ℕ) (rest : List Wire) → good_from both i rest ≡ (good_from a i rest && good_from b i rest)
 unfolding good_from
-good_wires net i [] h = let few : i + 0 ≤ 512 = omega arith in sym (le-leb (i + 0) 512 few)
-good_wires net i (w ∷ rest) h = good_by_test net i w rest (good_wires net (i + 1) rest) (nat_lt i 512) refl
+pass_both a b both h i [] = refl
+pass_both a b both h i (w ∷ rest) =
+    ap₂ (λ s t. s && t) (h i w) (pass_both a b both h (i + 1) rest) ∙ regroup_both (a i w) (b i w) (good_from a (i + 1) rest) (good_from b (i + 1) rest)
+
+good_wires : (net : NetData) (i : ℕ) (rest : List Wire) → good_from (is_good_wire net) i rest ≡ are_good_from net i rest
+unfolding good_from
+good_wires net i [] = refl
+good_wires net i (w ∷ rest) = ap (λ t. is_good_wire net i w && t) (good_wires net (i + 1) rest)
+
+-- one more place, by the test of the total behind it
+one_more : (b : Bool) (here there limit : ℕ) (rest : Bool) → nat_le here limit ≡ b → here ≤ there → (here ≤ limit → rest ≡ nat_le there limit) → (b && rest) ≡ nat_le there limit
+one_more true here there limit rest e le later = later (leb-true _ _ e)
+one_more false here there limit rest e le later = let past : limit < here = leb-false here limit e in sym (lt-leb there limit (omega arith))
+
+-- what never falls from one place to the next isn't less later
+later_more : (total : ℕ → ℕ) → ((i : ℕ) → total i ≤ total (suc i)) → (k i n : ℕ) → i + k ≡ n → total i ≤ total n
+later_more total grows zero i n e = let same : i ≡ n = omega arith in rw same (omega arith)
+later_more total grows (suc k) i n e =
+    let next : suc i + k ≡ n = omega arith in omega (arith, grows i, later_more total grows k (suc i) n next)
+
+-- a total that never falls is within its limit behind all wires where it is behind each
+within_limit : (wires : List Wire) (test : ℕ → Wire → Bool) (total : ℕ → ℕ) (limit : ℕ) → ((i : ℕ) → total i ≤ total (suc i)) → ((i : ℕ) → i < length wires → test i (get_or wires i no_wire) ≡ nat_le (total (suc i)) limit)
+    → (k i : ℕ) → i + k ≡ length wires → total i ≤ limit → good_from test i (drop i wires) ≡ nat_le (total (length wires)) limit
+unfolding good_from
+within_limit wires test total limit grows tests zero i e fits =
+    let past : length wires ≤ i = omega arith in
+    let all : length wires ≡ i = omega arith in
+    ap (good_from test i) (drop_of_length-le wires past) ∙ sym (le-leb (total (length wires)) limit (rw all fits))
+within_limit wires test total limit grows tests (suc k) i e fits =
+    let lt : i < length wires = omega arith in
+    let next : (i + 1) + k ≡ length wires = omega arith in
+    let after : suc i + k ≡ length wires = omega arith in
+    let rest = good_from test (i + 1) (drop (i + 1) wires) in
+    ap (good_from test i) (left_at wires i lt)
+    ∙ ap (λ t. t && rest) (tests i lt)
+    ∙ one_more (nat_le (total (suc i)) limit) (total (suc i)) (total (length wires)) limit rest refl (later_more total grows k (suc i) (length wires) after)
+    (λ within. within_limit wires test total limit grows tests k (i + 1) next (rw (add-one i) within))
+
+-- how many wires stand before a place
+count_room : (wires : List Wire) (i : ℕ) → i < length wires → nat_lt (length (take i wires)) 512 ≡ nat_le (suc i) 512
+count_room wires i lt = let count : length (take i wires) ≡ i = length-take-le i wires (omega arith) in rw count refl
+
+-- over how many rows their averages go
+rows_next : (wires : List Wire) (i : ℕ) → i < length wires → window_sum (take (suc i) wires) ≡ window_sum (take i wires) + window_of (get_or wires i no_wire).item
+rows_next [] i lt = absurd (omega arith)
+rows_next (w ∷ wires) zero lt = omega arith
+rows_next (w ∷ wires) (suc i) lt = omega (arith, rows_next wires i (omega arith))
+
+rows_grow : (wires : List Wire) (i : ℕ) → window_sum (take i wires) ≤ window_sum (take (suc i) wires)
+rows_grow [] zero = omega arith
+rows_grow [] (suc i) = omega arith
+rows_grow (w ∷ wires) zero = omega arith
+rows_grow (w ∷ wires) (suc i) = omega (arith, rows_grow wires i)
+
+-- there is room for the wires and for their averages
+room_for_all : (wires : List Wire) → good_from (room_at wires) 0 wires ≡ (nat_le (length wires) 512 && nat_le (window_sum wires) 65536)
+unfolding room_at
+room_for_all wires =
+    pass_both (λ i w. nat_lt (length (take i wires)) 512) (λ i w. nat_le (window_sum (take i wires) + window_of w.item) 65536) (room_at wires) (λ i w. refl) 0 wires
+    ∙ ap₂ (λ s t. s && t)
+    (within_limit wires (λ i w. nat_lt (length (take i wires)) 512) (λ i. i) 512 (λ i. omega arith) (count_room wires) (length wires) 0 (zero-add (length wires)) (omega arith))
+    (within_limit wires (λ i w. nat_le (window_sum (take i wires) + window_of w.item) 65536) (λ i. window_sum (take i wires)) 65536 (rows_grow wires) (λ i lt. ap (λ n. nat_le n 65536) (sym (rows_next wires i lt))) (length wires) 0 (zero-add (length wires)) (omega arith)
+    ∙ ap (λ ws. nat_le (window_sum ws) 65536) (take_all (length wires) wires (omega arith)))
+
+-- the wires are good where they are in their places and there is room for all
+good_places : (net : NetData) → good_from (good_place net) 0 net.wires ≡ (are_good_from net 0 net.wires && (nat_le (length net.wires) 512 && nat_le (window_sum net.wires) 65536))
+unfolding good_place
+good_places net =
+    pass_both (is_good_wire net) (room_at net.wires) (good_place net) (λ i w. refl) 0 net.wires ∙ ap₂ (λ s t. s && t) (good_wires net 0 net.wires) (room_for_all net.wires)
+
+-- ---- the delays' sources
+
+no_fault : (wires xs : List Wire) (i : ℕ) → is_ok (unsourced_at (position_from (λ w. not (is_sourced wires w)) i xs)) ≡ list_all (is_sourced wires) xs
+no_fault wires [] i = refl
+no_fault wires (x ∷ xs) i = by (is_sourced wires x) (no_fault wires xs (i + 1))
+  where
+    by : (t : Bool) → is_ok (unsourced_at (position_from (λ w. not (is_sourced wires w)) (i + 1) xs)) ≡ list_all (is_sourced wires) xs → is_ok (unsourced_at (cond (not t) (Some i) (position_from (λ w. not (is_sourced wires w)) (i + 1) xs))) ≡ (t && list_all (is_sourced wires) xs)
+    by true later = later
+    by false later = refl
+
+sources_decide : (wires : List Wire) → is_ok (sources_tested wires) ≡ list_all (is_sourced wires) wires
+unfolding sources_tested
+sources_decide wires = ap (λ found. is_ok (unsourced_at found)) (position_from-zero (λ w. not (is_sourced wires w)) wires) ∙ no_fault wires wires 0
 
 -- ---- the names
 
@@ -149,13 +207,12 @@ unfolding distinct same_name
 distinct-names [] = refl
 distinct-names (w ∷ wires) = ap₂ (λ t u. not t && u) (sym (list_any-names w.name wires)) (distinct-names wires)
 
--- the tests of all wires are those of their names, of each wire in its place, and of their number
-wires_decide : (net : NetData) → are_named net.wires ≡ true → is_ok (wires_tested net 0 net.wires) ≡ (are_distinct (map (λ w. w.name) net.wires) && (are_good_from net 0 net.wires && nat_le (length net.wires) 512))
+-- the tests of all wires are those of their names, of each wire in its place, and of what there is room for
+wires_decide : (net : NetData) → are_named net.wires ≡ true → is_ok (wires_tested net 0 net.wires) ≡ (are_distinct (map (λ w. w.name) net.wires) && (are_good_from net 0 net.wires && (nat_le (length net.wires) 512 && nat_le (window_sum net.wires) 65536)))
 wires_decide net named =
-    let all : 0 + length net.wires ≡ length net.wires = omega arith in
-    wires_pass net (length net.wires) 0 all named
+    wires_pass net (length net.wires) 0 (zero-add (length net.wires)) named
     ∙ remains-zero same_name (good_place net) same_name_comm net.wires
-    ∙ ap₂ (λ t u. t && u) (distinct-names net.wires) (good_wires net 0 net.wires (omega arith) ∙ ap (λ n. are_good_from net 0 net.wires && nat_le n 512) all)
+    ∙ ap₂ (λ t u. t && u) (distinct-names net.wires) (good_places net)
 
 -- ---- the outputs
 
@@ -193,28 +250,34 @@ behind_outs true (Ok u) = refl
 behind_outs false (Ok u) = refl
 behind_outs b (Err k) = refl
 
-behind_wires : (i : ℕ) (wires : Result (Unit {0}) Fault) (ends : Result (Unit {0}) NetKind) → is_ok (wires >>= λ _. at_wire i ends) ≡ (is_ok wires && is_ok ends)
-behind_wires i (Ok u) (Ok v) = refl
-behind_wires i (Ok u) (Err k) = refl
-behind_wires i (Err f) ends = refl
+behind_wires : (i : ℕ) (wires sources : Result (Unit {0}) Fault) (ends : Result (Unit {0}) NetKind) → is_ok (wires >>= λ _. sources >>= λ _. at_wire i ends) ≡ (is_ok wires && (is_ok sources && is_ok ends))
+behind_wires i (Ok u) (Ok s) (Ok v) = refl
+behind_wires i (Ok u) (Ok s) (Err k) = refl
+behind_wires i (Ok u) (Err f) ends = refl
+behind_wires i (Err f) sources ends = refl
 
-regroup_all : (f d g o n e : Bool) → ((d && (g && f)) && ((n && o) && e)) ≡ (f && d && g && o && n && e)
-regroup_all true true true true true e = refl
-regroup_all true true true true false e = refl
-regroup_all true true true false true e = refl
-regroup_all true true true false false e = refl
-regroup_all true true false o n e = refl
-regroup_all true false g o n e = refl
-regroup_all false true true o n e = refl
-regroup_all false true false o n e = refl
-regroup_all false false g o n e = refl
+regroup_all : (f r d g s o n e : Bool) → ((d && (g && (f && r))) && (s && ((n && o) && e))) ≡ (f && r && d && g && s && o && n && e)
+regroup_all true true true true true true true e = refl
+regroup_all true true true true true true false e = refl
+regroup_all true true true true true false true e = refl
+regroup_all true true true true true false false e = refl
+regroup_all true true true true false o n e = refl
+regroup_all true true true false s o n e = refl
+regroup_all true true false g s o n e = refl
+regroup_all true false true true s o n e = refl
+regroup_all true false true false s o n e = refl
+regroup_all true false false g s o n e = refl
+regroup_all false r true true s o n e = refl
+regroup_all false r true false s o n e = refl
+regroup_all false r false g s o n e = refl
 
 tested_decides : (net : NetData) → are_named net.wires ≡ true → is_ok (tested net) ≡ is_valid net
 unfolding tested ends_tested is_valid
 tested_decides net named =
-    behind_wires (length net.wires) (wires_tested net 0 net.wires) (ends_tested net)
-    ∙ ap₂ (λ t u. t && u) (wires_decide net named) (behind_outs (has_ends net.wires net.outs) (outs_tested (length net.wires) [] net.outs) ∙ ap (λ t. t && has_ends net.wires net.outs) (outs_decide (length net.wires) net.outs))
-    ∙ regroup_all (nat_le (length net.wires) 512) (are_distinct (map (λ w. w.name) net.wires)) (are_good_from net 0 net.wires) (are_below (length net.wires) net.outs) (are_distinct_outs net.outs) (has_ends net.wires net.outs)
+    behind_wires (length net.wires) (wires_tested net 0 net.wires) (sources_tested net.wires) (ends_tested net)
+    ∙ ap₂ (λ t u. t && u) (wires_decide net named)
+    (ap₂ (λ t u. t && u) (sources_decide net.wires) (behind_outs (has_ends net.wires net.outs) (outs_tested (length net.wires) [] net.outs) ∙ ap (λ t. t && has_ends net.wires net.outs) (outs_decide (length net.wires) net.outs)))
+    ∙ regroup_all (nat_le (length net.wires) 512) (nat_le (window_sum net.wires) 65536) (are_distinct (map (λ w. w.name) net.wires)) (are_good_from net 0 net.wires) (list_all (is_sourced net.wires) net.wires) (are_below (length net.wires) net.outs) (are_distinct_outs net.outs) (has_ends net.wires net.outs)
 
 -- a draft that passes its tests is valid
 pub valid_if_tested : (net : NetData) → are_named net.wires ≡ true → tested net ≡ Ok tt → IsValid net

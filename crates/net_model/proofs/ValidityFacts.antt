@@ -1,5 +1,5 @@
 -- What a valid network keeps.
-use Rattle.std.proofs.Common.{◌≡◌, ℕ, zero, suc, ◌+◌, ◌<◌, ◌≤◌, Bool, true, ◌&&◌, List, [], ◌∷◌, map, length, take, drop, get_or, ◌==◌, ℤ, ◌≤ℤ◌, nat_lt, nat_le, int_le, refl, sym, ap, subst, arith, true≢false, ltb-true, leb-true, eqb-true}
+use Rattle.std.proofs.Common.{◌≡◌, ℕ, zero, suc, ◌+◌, ◌<◌, ◌≤◌, Bool, true, false, ◌&&◌, List, [], ◌∷◌, map, length, take, drop, get_or, ◌==◌, ℤ, pos, negsuc, ◌≤ℤ◌, nat_lt, nat_le, int_le, refl, sym, ap, ap₂, subst, arith, true≢false, ltb-true, leb-true, eqb-true}
 use Rattle.std.specs.Prelude.{Option, Some, None, slice_get}
 use Rattle.std.specs.List.{list_any, list_all}
 use Rattle.std.proofs.lemmas.Bool.{and_parts}
@@ -18,49 +18,58 @@ use Rattle.net_model.specs.declared.wires.WireNo.{WireNo}
 use Rattle.net_model.specs.declared.wires.Kind.{Kind}
 use Rattle.net_model.specs.declared.wires.Kind.TheVariants.{Num, Truth}
 use Rattle.net_model.specs.declared.wires.Block.{Block}
-use Rattle.net_model.specs.declared.wires.Block.TheVariants.{Arith, Scaled}
+use Rattle.net_model.specs.declared.wires.Block.TheVariants.{Arith, Scaled, Gain, Average, Pt1, Dt1}
 use Rattle.net_model.specs.declared.wires.Item.{Item}
-use Rattle.net_model.specs.declared.wires.Item.TheVariants.{Input, Const, Block as OfBlock}
+use Rattle.net_model.specs.declared.wires.Item.TheVariants.{Input, Const, Delay, Block as OfBlock}
 use Rattle.net_model.specs.declared.wires.Wire.{Wire}
-use Rattle.net_model.specs.Wires.{NetData, wire_at, no_wire, kind_least, kind_greatest, point_of, argument_of, is_input}
+use Rattle.net_model.specs.Wires.{NetData, wire_at, no_wire, kind_least, kind_greatest, point_of, argument_of, is_input, window_sum}
 use Rattle.net_model.specs.declared.signatures.Sort.TheVariants.{Number}
-use Rattle.net_model.specs.Families.{is_built, signature_of, held_by, first_of}
-use Rattle.net_model.specs.BlockForms.{form_of, signature_in, repeats_first, adds_no_number}
+use Rattle.fx_routines.specs.Variants.{same_type}
+use Rattle.net_model.specs.Families.{is_built, signature_of, held_by, first_of, gains, weights, counts_of_rows}
+use Rattle.net_model.specs.BlockForms.{in_range, in_ranges, form_of, signature_in, repeats_first, adds_no_number}
 use Rattle.net_model.proofs.FamilyFacts.{is_shift, shift_of_ranges, reads_some}
 use Rattle.net_model.proofs.SideBySide.{same_lengths}
 use Rattle.mfx_scaled.specs.Operations.{argument_types as scaled_types}
-use Rattle.net_model.specs.Validity.{is_good_kind, kind_holds, is_number_of, is_of_sort, takes_form, wires_earlier, wires_agree, form_agrees, numbers_fit, is_built_item, item_reads_earlier, item_agrees, item_in_range, is_good_wire, are_good_from, are_distinct, are_distinct_outs, is_valid, IsValid}
+use Rattle.net_model.specs.Validity.{is_good_kind, kind_holds, is_number_of, is_of_sort, takes_form, wires_earlier, wires_agree, form_agrees, numbers_fit, is_built_item, item_reads_earlier, item_agrees, item_in_range, same_kind, item_is_sourced, is_sourced, is_good_wire, are_good_from, are_distinct, are_distinct_outs, is_valid, IsValid}
 
 -- the conditions, one by one
 pub record Conditions (net : NetData) : Type 0 where
   pub few : nat_le (length net.wires) 512 ≡ true
+  pub few_rows : nat_le (window_sum net.wires) 65536 ≡ true
   pub distinct : are_distinct (map (λ w. w.name) net.wires) ≡ true
   pub good : are_good_from net 0 net.wires ≡ true
+  pub sourced : list_all (is_sourced net.wires) net.wires ≡ true
   pub outs_there : list_all (λ o. nat_lt o.0 (length net.wires)) net.outs ≡ true
   pub outs_distinct : are_distinct_outs net.outs ≡ true
   pub has_input : list_any (λ w. is_input w.item) net.wires ≡ true
   pub has_output : nat_lt 0 (length net.outs) ≡ true
 
--- six tests that are passed together are passed one by one
-and_parts_of_six : (a b c d e f : Bool) → (a && b && c && d && e && f) ≡ true → (a ≡ true) × (b ≡ true) × (c ≡ true) × (d ≡ true) × (e ≡ true) × (f ≡ true)
-and_parts_of_six a b c d e f h =
-    let h1 = and_parts _ _ h in
+-- eight tests that are passed together are passed one by one
+and_parts_of_eight : (a b c d e f g h : Bool) → (a && b && c && d && e && f && g && h) ≡ true → (a ≡ true) × (b ≡ true) × (c ≡ true) × (d ≡ true) × (e ≡ true) × (f ≡ true) × (g ≡ true) × (h ≡ true)
+and_parts_of_eight a b c d e f g h all =
+    let h1 = and_parts _ _ all in
     let h2 = and_parts _ _ h1.0 in
     let h3 = and_parts _ _ h2.0 in
     let h4 = and_parts _ _ h3.0 in
     let h5 = and_parts _ _ h4.0 in
-    (h5.0, h5.1, h4.1, h3.1, h2.1, h1.1)
+    let h6 = and_parts _ _ h5.0 in
+    let h7 = and_parts _ _ h6.0 in
+    (h7.0, h7.1, h6.1, h5.1, h4.1, h3.1, h2.1, h1.1)
 
 pub conditions : (net : NetData) → IsValid net → Conditions net
 unfolding is_valid
 conditions net h =
-    let p = and_parts_of_six _ _ _ _ _ _ h in
-    let ends = and_parts (list_any (λ w. is_input w.item) net.wires) (nat_lt 0 (length net.outs)) p.5 in
-    record { few = p.0; distinct = p.1; good = p.2; outs_there = p.3; outs_distinct = p.4; has_input = ends.0; has_output = ends.1 }
+    let p = and_parts_of_eight _ _ _ _ _ _ _ _ h in
+    let ends = and_parts (list_any (λ w. is_input w.item) net.wires) (nat_lt 0 (length net.outs)) p.7 in
+    record { few = p.0; few_rows = p.1; distinct = p.2; good = p.3; sourced = p.4; outs_there = p.5; outs_distinct = p.6; has_input = ends.0; has_output = ends.1 }
 
 -- a valid network has at most 512 wires
 pub length-valid : (net : NetData) → IsValid net → length net.wires ≤ 512
 length-valid net h = leb-true _ _ (conditions net h).few
+
+-- the averages of a valid network go over at most 65536 rows together
+pub rows-valid : (net : NetData) → IsValid net → window_sum net.wires ≤ 65536
+rows-valid net h = leb-true _ _ (conditions net h).few_rows
 
 -- each wire is good in its place
 good_from : (net : NetData) (rest : List Wire) (i k : ℕ) → are_good_from net i rest ≡ true → k < length rest → is_good_wire net (i + k) (get_or rest k no_wire) ≡ true
@@ -138,6 +147,36 @@ input-valid net i lo hi h lt e =
 -- a constant lies in its kind
 pub const-valid : (net : NetData) (i : ℕ) (value : ℤ) → IsValid net → i < length net.wires → (wire_at net.wires i).item ≡ Const value → IsInKind (wire_at net.wires i).kind value
 const-valid net i value h lt e = in_kind _ _ (good_item-valid net i (Const value) h lt e).in_range
+
+-- ---- delays
+
+-- a delay's source is a wire of the delay's very kind, which holds its first value
+pub record IsGoodDelay (net : NetData) (kind : Kind) (init : ℤ) (source : WireNo) : Type 0 where
+  pub there : source.0 < length net.wires
+  pub same : (wire_at net.wires source.0).kind ≡ kind
+  pub holds : kind_holds kind init ≡ true
+
+sourced_at : (all wires : List Wire) (k : ℕ) → list_all (is_sourced all) wires ≡ true → k < length wires → is_sourced all (get_or wires k no_wire) ≡ true
+sourced_at all [] k h lt = absurd (omega arith)
+sourced_at all (w ∷ wires) zero h lt = (and_parts (is_sourced all w) (list_all (is_sourced all) wires) h).0
+sourced_at all (w ∷ wires) (suc k) h lt = sourced_at all wires k (and_parts (is_sourced all w) (list_all (is_sourced all) wires) h).1 (omega arith)
+
+-- two kinds that are the same by the test are
+pub same_kind-true : (a b : Kind) → same_kind a b ≡ true → b ≡ a
+same_kind-true (Num t p) (Num u q) h =
+    let both = and_parts (same_type t u) (p == q) h in
+    ap₂ Num (sym (same_true the_type tt t u both.0)) (sym (eqb-true p q both.1))
+same_kind-true Truth Truth h = refl
+same_kind-true one other h = absurd (true≢false (sym h))
+
+pub delay-valid : (net : NetData) (i : ℕ) (init : ℤ) (source : WireNo) → IsValid net → i < length net.wires → (wire_at net.wires i).item ≡ Delay init source → IsGoodDelay net (wire_at net.wires i).kind init source
+delay-valid net i init source h lt e =
+    let w = wire_at net.wires i in
+    let sourced : item_is_sourced net.wires w.kind (Delay init source) ≡ true = subst (λ (t : Item). item_is_sourced net.wires w.kind t ≡ true) e (sourced_at net.wires net.wires i (conditions net h).sourced lt) in
+    let both = and_parts (nat_lt source.0 (length net.wires)) (same_kind w.kind (wire_at net.wires source.0).kind) sourced in
+    record { there = ltb-true _ _ both.0; same = same_kind-true w.kind (wire_at net.wires source.0).kind both.1; holds = (good_item-valid net i (Delay init source) h lt e).in_range }
+
+-- ---- kinds and arguments
 
 -- a wire of a type is a number wire
 pub number_kind : (ty : Ty) (kind : Kind) → is_number_of ty kind ≡ true → (point : ℕ) × (kind ≡ Num ty point)
@@ -294,6 +333,88 @@ good_scaled net i kind op v x y g =
 
 pub scaled-valid : (net : NetData) (i : ℕ) (op : ScaledOp) (v : Variant) (x y : WireNo) → IsValid net → i < length net.wires → (wire_at net.wires i).item ≡ OfBlock (Scaled op v x y) → IsGoodScaled net i (wire_at net.wires i).kind op v x y
 scaled-valid net i op v x y h lt e = good_scaled net i (wire_at net.wires i).kind op v x y (block-valid net i (Scaled op v x y) h lt e)
+
+-- ---- filters
+
+-- a filter's argument is an earlier wire of its type, and the filter gives its type
+pub record IsGoodFilter (net : NetData) (i : ℕ) (kind : Kind) (xty ty : Ty) (x : WireNo) : Type 0 where
+  pub earlier : x.0 < i
+  pub input : is_number_of xty (wire_at net.wires x.0).kind ≡ true
+  pub output : is_number_of ty kind ≡ true
+
+-- a gain, with 16 fractional bits
+pub record IsGain (k : ℤ) : Type 0 where
+  pub low : negsuc 2147483647 ≤ℤ k
+  pub high : k ≤ℤ pos 2147483647
+
+good_filter : (net : NetData) (i : ℕ) (kind : Kind) (xty ty : Ty) (x : WireNo) → (nat_lt x.0 i && true) ≡ true → (is_number_of xty (wire_at net.wires x.0).kind && true) ≡ true → is_number_of ty kind ≡ true → IsGoodFilter net i kind xty ty x
+good_filter net i kind xty ty x earlier agree gives = record {
+  earlier = ltb-true _ _ (and_parts (nat_lt x.0 i) true earlier).0;
+  input = (and_parts (is_number_of xty (wire_at net.wires x.0).kind) true agree).0;
+  output = gives;
+}
+
+good_gain : (k : ℤ) → in_range gains k ≡ true → IsGain k
+good_gain k h =
+    let p = and_parts (int_le (negsuc 2147483647) k) (int_le k (pos 2147483647)) h in
+    record { low = le_from_test _ _ p.0; high = le_from_test _ _ p.1 }
+
+-- a proportional block
+pub record IsGoodGain (net : NetData) (i : ℕ) (kind : Kind) (xty ty : Ty) (x : WireNo) (k : ℤ) : Type 0 where
+  pub wires : IsGoodFilter net i kind xty ty x
+  pub gain : IsGain k
+
+good_gain_block : (net : NetData) (i : ℕ) (kind : Kind) (xty ty : Ty) (x : WireNo) (k : ℤ) → IsGoodBlock net i kind (Gain xty ty x k) → IsGoodGain net i kind xty ty x k
+unfolding form_of signature_of
+good_gain_block net i kind xty ty x k g =
+    record { wires = good_filter net i kind xty ty x g.earlier g.agree g.gives; gain = good_gain k (and_parts (in_range gains k) true g.fits).0 }
+
+pub gain-valid : (net : NetData) (i : ℕ) (xty ty : Ty) (x : WireNo) (k : ℤ) → IsValid net → i < length net.wires → (wire_at net.wires i).item ≡ OfBlock (Gain xty ty x k) → IsGoodGain net i (wire_at net.wires i).kind xty ty x k
+gain-valid net i xty ty x k h lt e = good_gain_block net i (wire_at net.wires i).kind xty ty x k (block-valid net i (Gain xty ty x k) h lt e)
+
+-- an average
+pub record IsGoodAverage (net : NetData) (i : ℕ) (kind : Kind) (xty ty : Ty) (x : WireNo) (n : ℕ) : Type 0 where
+  pub wires : IsGoodFilter net i kind xty ty x
+  pub some : 1 ≤ n
+  pub few : n ≤ 1024
+
+good_average : (net : NetData) (i : ℕ) (kind : Kind) (xty ty : Ty) (x : WireNo) (n : ℕ) → IsGoodBlock net i kind (Average xty ty x n) → IsGoodAverage net i kind xty ty x n
+unfolding form_of signature_of
+good_average net i kind xty ty x n g =
+    let p = and_parts (nat_le 1 n) (nat_le n 1024) (and_parts (in_range counts_of_rows (pos n)) true g.fits).0 in
+    record { wires = good_filter net i kind xty ty x g.earlier g.agree g.gives; some = leb-true _ _ p.0; few = leb-true _ _ p.1 }
+
+pub average-valid : (net : NetData) (i : ℕ) (xty ty : Ty) (x : WireNo) (n : ℕ) → IsValid net → i < length net.wires → (wire_at net.wires i).item ≡ OfBlock (Average xty ty x n) → IsGoodAverage net i (wire_at net.wires i).kind xty ty x n
+average-valid net i xty ty x n h lt e = good_average net i (wire_at net.wires i).kind xty ty x n (block-valid net i (Average xty ty x n) h lt e)
+
+-- a filter with a state: the weight of the old state, and the gain
+pub record IsGoodLag (net : NetData) (i : ℕ) (kind : Kind) (xty ty : Ty) (x : WireNo) (teq : ℕ) (k : ℤ) : Type 0 where
+  pub wires : IsGoodFilter net i kind xty ty x
+  pub weight : teq ≤ 65536
+  pub gain : IsGain k
+
+good_lag : (net : NetData) (i : ℕ) (kind : Kind) (xty ty : Ty) (x : WireNo) (teq : ℕ) (k : ℤ) → IsGoodFilter net i kind xty ty x → in_ranges (weights ∷ gains ∷ []) (pos teq ∷ k ∷ []) ≡ true → IsGoodLag net i kind xty ty x teq k
+good_lag net i kind xty ty x teq k wires fits =
+    let outer = and_parts (in_range weights (pos teq)) (in_range gains k && true) fits in
+    let weight = and_parts (nat_le 0 teq) (nat_le teq 65536) outer.0 in
+    record { wires = wires; weight = leb-true _ _ weight.1; gain = good_gain k (and_parts (in_range gains k) true outer.1).0 }
+
+good_pt1 : (net : NetData) (i : ℕ) (kind : Kind) (xty ty : Ty) (x : WireNo) (teq : ℕ) (k : ℤ) → IsGoodBlock net i kind (Pt1 xty ty x teq k) → IsGoodLag net i kind xty ty x teq k
+unfolding form_of signature_of
+good_pt1 net i kind xty ty x teq k g = good_lag net i kind xty ty x teq k (good_filter net i kind xty ty x g.earlier g.agree g.gives) g.fits
+
+pub pt1-valid : (net : NetData) (i : ℕ) (xty ty : Ty) (x : WireNo) (teq : ℕ) (k : ℤ) → IsValid net → i < length net.wires → (wire_at net.wires i).item ≡ OfBlock (Pt1 xty ty x teq k) → IsGoodLag net i (wire_at net.wires i).kind xty ty x teq k
+pt1-valid net i xty ty x teq k h lt e = good_pt1 net i (wire_at net.wires i).kind xty ty x teq k (block-valid net i (Pt1 xty ty x teq k) h lt e)
+
+good_dt1 : (net : NetData) (i : ℕ) (kind : Kind) (second : Bool) (xty ty : Ty) (x : WireNo) (teq : ℕ) (k : ℤ) → IsGoodBlock net i kind (Dt1 second xty ty x teq k) → IsGoodLag net i kind xty ty x teq k
+unfolding form_of signature_of
+good_dt1 net i kind true xty ty x teq k g = good_lag net i kind xty ty x teq k (good_filter net i kind xty ty x g.earlier g.agree g.gives) g.fits
+good_dt1 net i kind false xty ty x teq k g = good_lag net i kind xty ty x teq k (good_filter net i kind xty ty x g.earlier g.agree g.gives) g.fits
+
+pub dt1-valid : (net : NetData) (i : ℕ) (second : Bool) (xty ty : Ty) (x : WireNo) (teq : ℕ) (k : ℤ) → IsValid net → i < length net.wires → (wire_at net.wires i).item ≡ OfBlock (Dt1 second xty ty x teq k) → IsGoodLag net i (wire_at net.wires i).kind xty ty x teq k
+dt1-valid net i second xty ty x teq k h lt e = good_dt1 net i (wire_at net.wires i).kind second xty ty x teq k (block-valid net i (Dt1 second xty ty x teq k) h lt e)
+
+-- ---- all
 
 pub argument_of-valid : (net : NetData) (i : ℕ) (b : Block) → IsValid net → i < length net.wires → (wire_at net.wires i).item ≡ OfBlock b → (p : ℕ) → argument_of b p < i
 argument_of-valid net i b h lt e p = argument_of-good net i (wire_at net.wires i).kind b (block-valid net i b h lt e) p

@@ -148,7 +148,9 @@ pub fn first_unsourced(wires: &[Wire]) -> Option<usize>
     ensures place { result ≡ first_unsourced wires.now }
     ensures below { IfSome result (λ place. place < length wires.now) }
 {
-    wires.iter().position(|wire| !is_sourced(wires, wire.kind, wire.item))
+    wires
+        .iter()
+        .position(|wire| !is_sourced(wires, wire.kind, wire.item))
 }
 
 fn is_sourced(all: &[Wire], kind: Kind, item: Item) -> bool

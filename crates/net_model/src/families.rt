@@ -7,8 +7,8 @@ ghost use Rattle.fx_routines.specs.declared.table.Routine.TheVariants.{Filter as
 ghost use Rattle.mfx_arith.specs.Operations.{argument_types, is_smooth_operation, unsigned_of};
 ghost use Rattle.mfx_scaled.specs.Operations.{argument_types as scaled_types};
 ghost use Rattle.net_model.specs.declared.signatures.Sort.TheVariants.{Number};
-ghost use Rattle.net_model.specs.Families.{arith_ranges, block_of, filter_ranges, first_of, held_by, is_built, number_or_zero, signature_of, wire_or_first};
-ghost use Rattle.net_model.specs.BlockForms.{in_ranges};
+ghost use Rattle.net_model.specs.Families.{arith_ranges, block_of, filter_ranges, first_of, gains, held_by, is_built, number_or_zero, signature_of, wire_or_first};
+ghost use Rattle.net_model.specs.BlockForms.{in_range, in_ranges};
 
 use crate::block_forms::Form;
 use crate::rooms::Few;
@@ -280,6 +280,7 @@ pub fn block_of(form: &Form) -> Block
 }
 
 // The block of a filter.
+#[tactic(auto, unfolding(crate::specs::Families::block_of))]
 fn filter_block(op: FilterOp, types: Types, x: WireNo, numbers: &[i64]) -> Block
     requires { in_ranges (filter_ranges op) numbers.now ≡ true }
     ensures { result ≡ block_of (record { routine = NamedFilter op; types = types; wires = x ∷ []; numbers = numbers.now }) }
@@ -291,30 +292,38 @@ fn filter_block(op: FilterOp, types: Types, x: WireNo, numbers: &[i64]) -> Block
             xty,
             ty,
             x,
-            k: number_or_zero(numbers, 0) as i32,
+            k: gain_of(number_or_zero(numbers, 0)),
         },
         FilterOp::Average => Block::Average {
             xty,
             ty,
             x,
-            n: number_or_zero(numbers, 0) as u16,
+            n: number_or_zero(numbers, 0).unsigned_abs() as u16,
         },
         FilterOp::Pt1 => Block::Pt1 {
             xty,
             ty,
             x,
-            teq: number_or_zero(numbers, 0) as u32,
-            k: number_or_zero(numbers, 1) as i32,
+            teq: number_or_zero(numbers, 0).unsigned_abs() as u32,
+            k: gain_of(number_or_zero(numbers, 1)),
         },
         FilterOp::Dt1Typ1 | FilterOp::Dt1Typ2 => Block::Dt1 {
             second: op == FilterOp::Dt1Typ2,
             xty,
             ty,
             x,
-            teq: number_or_zero(numbers, 0) as u32,
-            k: number_or_zero(numbers, 1) as i32,
+            teq: number_or_zero(numbers, 0).unsigned_abs() as u32,
+            k: gain_of(number_or_zero(numbers, 1)),
         },
     }
+}
+
+// A gain, as the integer of its type.
+fn gain_of(number: i64) -> i32
+    requires { in_range gains number ≡ true }
+    ensures { result ≡ number }
+{
+    number as i32
 }
 
 fn wire_or_first(wires: &[WireNo], p: usize) -> WireNo

@@ -196,7 +196,8 @@ impl Network {
     // The parts of a wire.
     fn roles(&self, w: WireNo) -> &[Role]
         requires { w.0 < length self.now.wires }
-        ensures { result.now ≡ roles_of (wire_at self.now.wires w.0).item }
+        ensures roles { result.now ≡ roles_of (wire_at self.now.wires w.0).item }
+        ensures valid { IsValid self.now }
     {
         self.wires()[w.0 as usize].item.roles()
     }
