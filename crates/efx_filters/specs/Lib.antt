@@ -1,1 +1,3 @@
 pub mod Formulas
+pub mod States
+pub mod Windows
