@@ -31,7 +31,7 @@ AreHeld net values n = (k : ℕ) → k < n → IsInKind (wire_at net.wires k).ki
 pub held_in_kind : (ty : Ty) (kind : Kind) (point : ℕ) (v : ℤ) → kind ≡ Num ty point → Holds ty v → IsInKind kind v
 held_in_kind ty kind point v e h = subst (λ k. IsInKind k v) (sym e) (record { low = h.0; high = h.1 })
 
-kind_held : (ty : Ty) (kind : Kind) (point : ℕ) (v : ℤ) → kind ≡ Num ty point → IsInKind kind v → Holds ty v
+pub kind_held : (ty : Ty) (kind : Kind) (point : ℕ) (v : ℤ) → kind ≡ Num ty point → IsInKind kind v → Holds ty v
 kind_held ty kind point v e h =
     let k : IsInKind (Num ty point) v = subst (λ k. IsInKind k v) e h in
     (k.low, k.high)
@@ -89,7 +89,7 @@ pub record IsKeptRight (net : NetData) (i : ℕ) (item : Item) : Type 0 where
   pub next : (state : State) (inputs : List ℤ) (rows : List (List ℤ)) (past : List (List (Cell ℤ))) →
       state ≡ kept_by net rows past i item →
       handed item (values_in (cells_of net (inputs ∷ rows) past))
-          (state_behind (item_step net i item) state (values_in (cells_to net (inputs ∷ rows) past i)))
+      (state_behind (item_step net i item) state (values_in (cells_to net (inputs ∷ rows) past i)))
       ≡ kept_by net (inputs ∷ rows) (cells_of net (inputs ∷ rows) past ∷ past) i item
   -- it may keep what it does before the first row
   pub may_start : MayKeep net i item (item_start net i item)

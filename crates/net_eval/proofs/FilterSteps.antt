@@ -1,18 +1,17 @@
 -- The steps of the filters: what they are given, the values that they give, and what they keep.
-use Rattle.std.proofs.Common.{◌≡◌, ℕ, zero, suc, ◌-◌, ◌<◌, ◌≤◌, Bool, true, false, List, [], ◌∷◌, map, length, take, get_or, replicate, ℤ, pos, ◌≤ℤ◌, refl, sym, ap, ap₂, ◌∙◌, subst, arith}
-use Rattle.std.specs.List.{range_with_len}
+use Rattle.std.proofs.Common.{◌≡◌, ℕ, zero, suc, ◌-◌, ◌<◌, Bool, List, [], ◌∷◌, length, take, get_or, replicate, ℤ, pos, refl, sym, ap, ap₂, ◌∙◌, subst, arith}
 use Rattle.std.proofs.lemmas.Int.{ints}
-use Rattle.std.proofs.lemmas.List.{ext_get_or, get_or-take, length-take-le}
+use Rattle.std.proofs.lemmas.List.{ext_get_or, get_or-replicate, get_or-take, length-replicate, length-take-le}
 use Rattle.std.proofs.lemmas.List.FromFn.{length-map-range_with_len}
-use Rattle.fx_fraction.specs.Fraction.{Fraction, whole, plus, divided, minus}
+use Rattle.fx_fraction.specs.Fraction.{Fraction, whole, plus, divided}
 use Rattle.fx_core.specs.declared.word_type.Ty.{Ty}
 use Rattle.fx_core.specs.declared.word_type.Ty.TheVariants.{U8}
 use Rattle.fx_core.specs.declared.quotient.Mode.TheVariants.{Near}
 use Rattle.fx_core.specs.Types.{Holds, saturated, saturated_to}
 use Rattle.fx_core.specs.Values.{rounded_fraction}
 use Rattle.fx_core.proofs.TypeLaws.{saturated_held}
-use Rattle.efx_filters.specs.Formulas.{sum_of, average_formula, gain_formula, value_formula}
-use Rattle.efx_filters.specs.States.{next_state, state_value, gain_start, gain_value, average_value, input_ago}
+use Rattle.efx_filters.specs.Formulas.{sum_of, average_formula}
+use Rattle.efx_filters.specs.States.{next_state, state_value, gain_value, average_value, input_ago}
 use Rattle.net_model.specs.declared.wires.WireNo.{WireNo}
 use Rattle.net_model.specs.declared.wires.Kind.{Kind}
 use Rattle.net_model.specs.declared.wires.Kind.TheVariants.{Num}
@@ -22,14 +21,14 @@ use Rattle.net_model.specs.declared.wires.Item.TheVariants.{Block as OfBlock}
 use Rattle.net_model.specs.Wires.{NetData, wire_at, kind_least, kind_greatest}
 use Rattle.net_model.specs.Validity.{IsValid}
 use Rattle.net_model.proofs.ValidityFacts.{IsInKind, IsGoodFilter, number_kind, gain-valid, average-valid, pt1-valid, dt1-valid}
-use Rattle.net_meaning.specs.Cells.{Cell, cell_at, plain}
+use Rattle.net_meaning.specs.Cells.{Cell, cell_at}
 use Rattle.net_meaning.specs.Blocks.{machine, machine_cell, machine_state_of, formula, state_formula, quotient_of as block_quotient}
-use Rattle.net_meaning.specs.Runs.{equation_of, row_of}
+use Rattle.net_meaning.specs.Runs.{equation_of}
 use Rattle.net_meaning.proofs.Arguments.{arguments_earlier}
 use Rattle.net_meaning.proofs.TableRun.{row-meets}
 use Rattle.net_eval.specs.declared.states.State.{State}
 use Rattle.net_eval.specs.declared.states.State.TheVariants.{Nothing, Held, Gaining, Lagging, Differencing, Averaging}
-use Rattle.net_eval.specs.States.{CanStart, TakesInput, block_start, filter_value, filter_after, last_values, restarted, value_ago}
+use Rattle.net_eval.specs.States.{TakesInput, block_start, filter_value, filter_after, last_values, restarted, value_ago}
 use Rattle.net_eval.specs.Steps.{value_at}
 use Rattle.net_eval.proofs.Listings.{list_at}
 use Rattle.net_eval.proofs.FaithfulSteps.{IsFaithful, IsKeptRight, AreHeld, cells_of, cells_to, held_in_kind, kind_held, values_in, value_at-values_in, value_in_row}
@@ -37,7 +36,7 @@ use Rattle.net_eval.proofs.FaithfulSteps.{IsFaithful, IsKeptRight, AreHeld, cell
 -- ---- the types of a filter
 
 -- of its inputs, and of its values; those of what is no filter don't matter
-input_type : State → Ty
+abbrev input_type : State → Ty
 input_type Nothing = U8
 input_type (Held value) = U8
 input_type (Gaining gain) = gain.x
@@ -45,7 +44,7 @@ input_type (Lagging lag) = lag.x
 input_type (Differencing lag) = lag.x
 input_type (Averaging average) = average.x
 
-output_type : State → Ty
+abbrev output_type : State → Ty
 output_type Nothing = U8
 output_type (Held value) = U8
 output_type (Gaining gain) = gain.o
@@ -218,13 +217,14 @@ same_sum (suc n) f g same = ap₂ plus (same_sum n f g (λ k below. same k (omeg
 -- before the first row a window has zeros alone
 window_start : (x n : ℕ) → replicate n (pos 0) ≡ last_values [] x n
 unfolding machine
-window_start x n = ext_get_or (pos 0) _ _ (same_lengths n) (λ k below. zeros n k)
+window_start x n =
+    ext_get_or (pos 0) _ _ (zeros ∙ sym (length-map-range_with_len (value_ago [] x) 0 n)) (λ k below. each k (omega (arith, below, zeros)))
   where
-    same_lengths : (m : ℕ) → length (replicate m (pos 0)) ≡ length (last_values [] x m)
-    same_lengths m = omega (arith, length-map-range_with_len (value_ago [] x) 0 m)
+    zeros : length (replicate n (pos 0)) ≡ n
+    zeros = length-replicate n (pos 0)
 
-    zeros : (m k : ℕ) → get_or (replicate m (pos 0)) k (pos 0) ≡ get_or (last_values [] x m) k (pos 0)
-    zeros m k = refl
+    each : (k : ℕ) → k < n → get_or (replicate n (pos 0)) k (pos 0) ≡ get_or (last_values [] x n) k (pos 0)
+    each k lt = get_or-replicate n k (pos 0) (pos 0) lt ∙ sym (list_at (value_ago [] x) n k (pos 0) lt)
 
 -- the input of a row in front of the last n before it are the last of it
 window_next : (cells : List (Cell ℤ)) (past : List (List (Cell ℤ))) (x n : ℕ) → take n (value_ago (cells ∷ past) x 0 ∷ last_values past x n) ≡ last_values (cells ∷ past) x n

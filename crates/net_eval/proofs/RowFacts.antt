@@ -1,5 +1,5 @@
 -- What the steps make of a row is what the machine does: values, outputs, and what is kept behind it.
-use Rattle.std.proofs.Common.{◌≡◌, ℕ, zero, suc, ◌<◌, ◌≤◌, List, [], ◌∷◌, ◌++◌, map, length, drop, get_or, set, take, ℤ, pos, ◌≢◌, refl, sym, ap, ap₂, ◌∙◌, subst, arith, inl, inr}
+use Rattle.std.proofs.Common.{◌≡◌, ℕ, zero, suc, ◌+◌, ◌<◌, ◌≤◌, List, [], ◌∷◌, ◌++◌, map, length, drop, get_or, set, take, ℤ, pos, ◌≢◌, refl, sym, ap, ap₂, ◌∙◌, subst, arith, inl, inr}
 use Rattle.std.proofs.lemmas.Bool.{cases_eq}
 use Rattle.std.proofs.lemmas.List.{append-nil, ext_get_or, get_or_append_left, get_or_push, get_or-set_other, get_or-set_same, length_push, map-append}
 use Rattle.std.proofs.lemmas.List.FromFn.{length-map-range_with_len}
@@ -349,6 +349,17 @@ outs_there net steps handovers states inputs values outs p named filled =
 pub handovers_there : (net : NetData) (steps : List Step) (handovers : List Handover) (states now : List State) → ArePlanned net steps handovers states → length now ≡ length net.wires → AreAmong handovers (length now)
 handovers_there net steps handovers states now p e =
     subst (AreAmong handovers) (sym e) (subst (λ hs. AreAmong hs (length net.wires)) (sym p.handed) (all_among net (length net.wires) p.valid (omega arith)))
+
+-- the steps leave a value and a state for each wire
+pub length-stepped : (net : NetData) (steps : List Step) (handovers : List Handover) (states stepped : List State) (inputs : List ℤ) → ArePlanned net steps handovers states → stepped ≡ states_of steps states inputs (length steps) → length stepped ≡ length net.wires
+length-stepped net steps handovers states stepped inputs p e =
+    ap length e ∙ length-states_of steps states inputs (length steps) ∙ length-steps net steps handovers states p
+
+pub length-filled : (steps : List Step) (states stepped : List State) (inputs values : List ℤ) → values ≡ values_of steps states inputs (length steps) → stepped ≡ states_of steps states inputs (length steps) → length values ≡ length stepped
+length-filled steps states stepped inputs values filled stood =
+    ap length filled
+    ∙ length-values_of steps states inputs (length steps)
+    ∙ sym (ap length stood ∙ length-states_of steps states inputs (length steps))
 
 -- what is kept behind the row
 abbrev pub row_behind : List Step → List Handover → List State → List ℤ → List State

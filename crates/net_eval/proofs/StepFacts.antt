@@ -1,11 +1,12 @@
 -- How the steps, their values and the states grow, wire by wire.
-use Rattle.std.proofs.Common.{◌≡◌, ℕ, zero, suc, ◌+◌, ◌^◌, ◌<◌, ◌≤◌, Bool, true, false, List, [], ◌∷◌, ◌++◌, length, set, take, ℤ, nat_lt, refl, sym, ap, ap₂, ◌∙◌, arith, add-one, ltb-true}
+use Rattle.std.proofs.Common.{◌≡◌, ℕ, zero, suc, ◌+◌, ◌^◌, ◌<◌, ◌≤◌, Bool, true, false, List, [], ◌∷◌, ◌++◌, length, set, take, ℤ, nat_lt, ◌≢◌, refl, sym, ap, ap₂, ◌∙◌, arith, add-one, ltb-true}
 use Rattle.std.specs.List.{list_all}
 use Rattle.std.proofs.lemmas.Bool.{and_parts}
-use Rattle.std.proofs.lemmas.List.{length-set, length-take-le, take_more, take_more_set, get_or-set_other}
+use Rattle.std.proofs.lemmas.List.{append-nil, length-set, length-take-le, take_more, take_more_set, get_or-set_other}
 use Rattle.std.proofs.lemmas.List.Sums.{count_by_more_no, count_by_more_yes, count_by-le-length}
 use Rattle.net_model.specs.declared.wires.WireNo.{WireNo}
 use Rattle.net_model.specs.declared.wires.Item.{Item}
+use Rattle.net_model.specs.declared.wires.Item.TheVariants.{Input, Const, Delay, Block as OfBlock}
 use Rattle.net_model.specs.declared.wires.Wire.{Wire}
 use Rattle.net_model.specs.Wires.{NetData, wire_at, no_wire, is_input, input_place}
 use Rattle.net_model.specs.Validity.{IsValid}
@@ -85,6 +86,17 @@ unfolding handovers_of
 handovers_push net i handovers item is e =
     ap₂ (λ hs t. hs ++ handover_of i t) e is ∙ sym (ap (handovers_of net) (add-one i))
 
+-- what is no delay is handed nothing
+no_handover : (i : ℕ) (item : Item) → ((init : ℤ) (source : WireNo) → item ≢ Delay init source) → handover_of i item ≡ []
+no_handover i (Input lo hi) other = refl
+no_handover i (Const value) other = refl
+no_handover i (Delay init source) other = absurd (other init source refl)
+no_handover i (OfBlock b) other = refl
+
+pub handovers_same : (net : NetData) (i : ℕ) (handovers : List Handover) (item : Item) → item ≡ (wire_at net.wires i).item → ((init : ℤ) (source : WireNo) → item ≢ Delay init source) → handovers ≡ handovers_of net i → handovers ≡ handovers_of net (i + 1)
+handovers_same net i handovers item is other e =
+    sym (append-nil handovers) ∙ ap (λ hs. handovers ++ hs) (sym (no_handover i item other)) ∙ handovers_push net i handovers item is e
+
 -- ---- a row's values, and the states behind it
 
 pub values_start : (steps : List Step) (states : List State) (inputs : List ℤ) → [] ≡ values_of steps states inputs 0
@@ -117,11 +129,11 @@ unfolding handed_over
 handed_one [] h values states = refl
 handed_one (first ∷ rest) h values states = handed_one rest h values (set states first.delay (Held (value_at values first.source)))
 
-pub handed_push : (handovers : List Handover) (values : List ℤ) (states now : List State) (k : ℕ) (h : Handover) → k < length handovers → h ≡ handover_at handovers k → now ≡ handed_over (take k handovers) values states → set now h.delay (Held (value_at values h.source)) ≡ handed_over (take (k + 1) handovers) values states
-handed_push handovers values states now k h lt is e =
-    ap (λ l. set l h.delay (Held (value_at values h.source))) e
-    ∙ handed_one (take k handovers) h values states
-    ∙ ap (λ hs. handed_over hs values states) (ap (λ g. take k handovers ++ g ∷ []) is ∙ sym (take_more handovers k (record { delay = 0; source = 0 }) lt))
+pub handed_push : (handovers : List Handover) (values : List ℤ) (states now : List State) (k : ℕ) (v : ℤ) → k < length handovers → v ≡ value_at values (handover_at handovers k).source → now ≡ handed_over (take k handovers) values states → set now (handover_at handovers k).delay (Held v) ≡ handed_over (take (k + 1) handovers) values states
+handed_push handovers values states now k v lt is e =
+    ap₂ (λ l n. set l (handover_at handovers k).delay (Held n)) e is
+    ∙ handed_one (take k handovers) (handover_at handovers k) values states
+    ∙ ap (λ hs. handed_over hs values states) (sym (take_more handovers k (record { delay = 0; source = 0 }) lt))
 
 pub length-handed_over : (handovers : List Handover) (values : List ℤ) (states : List State) → length (handed_over handovers values states) ≡ length states
 unfolding handed_over

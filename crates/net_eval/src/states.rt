@@ -33,7 +33,8 @@ pub(crate) fn start(alloc: Global, net: &Network) -> Result<Vec<State>, AllocErr
     let mut states = Vec::new(alloc);
     let wires = net.wires();
     for i in 0..wires.len() {
-        states.push(start_of(alloc, net, WireNo(i as u32))?)?;
+        let state = start_of(alloc, net, WireNo(i as u32))?;
+        states.push(state)?;
     }
     Ok(states)
 }
@@ -63,7 +64,11 @@ fn block_start(alloc: Global, block: Block) -> Result<State, AllocError>
             Ok(State::Averaging(Average::new(alloc, xty, ty, n)?))
         }
         Block::Pt1 {
-            xty, ty, teq, k, ..
+            xty,
+            ty,
+            teq,
+            k,
+            ..
         } => Ok(State::Lagging(Pt1::new(xty, ty, teq, k))),
         Block::Dt1 {
             second,
@@ -78,7 +83,7 @@ fn block_start(alloc: Global, block: Block) -> Result<State, AllocError>
 
 /// Goes back to before the first row, which takes no memory.
 pub(crate) fn restart(net: &Network, states: &mut [State])
-    requires kept { AreKept net.now states.old }
+    requires { AreKept net.now states.old }
     ensures { states.new ≡ starts_of net.now (length net.now.wires) }
 {
     let wires = net.wires();
