@@ -4,5 +4,6 @@ pub mod FaithfulSteps
 pub mod PlainSteps
 pub mod ArithSteps
 pub mod ScaledSteps
+pub mod FilterSteps
 pub mod ItemSteps
 pub mod RowFacts

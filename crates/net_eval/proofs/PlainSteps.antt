@@ -1,27 +1,34 @@
--- The steps of inputs and constants, and the places of inputs.
-use Rattle.std.proofs.Common.{◌≡◌, ℕ, zero, suc, ◌+◌, ◌<◌, true, List, [], ◌∷◌, length, take, ℤ, refl, ap, arith, cond}
+-- The steps of inputs, constants and delays, what delays keep, and the places of inputs.
+use Rattle.std.proofs.Common.{◌≡◌, ℕ, zero, suc, ◌+◌, ◌<◌, true, List, [], ◌∷◌, length, take, ℤ, refl, ap, ◌∙◌, subst, arith, cond, if◌then◌else◌}
+use Rattle.std.proofs.lemmas.Bool.{lt-leb}
 use Rattle.std.proofs.lemmas.List.Recursion.{is_count_by}
 use Rattle.net_model.specs.declared.wires.WireNo.{WireNo}
 use Rattle.net_model.specs.declared.wires.Item.{Item}
-use Rattle.net_model.specs.declared.wires.Item.TheVariants.{Input, Const, Block as OfBlock}
+use Rattle.net_model.specs.declared.wires.Item.TheVariants.{Input, Const, Delay, Block as OfBlock}
 use Rattle.net_model.specs.declared.wires.Wire.{Wire}
 use Rattle.net_model.specs.Wires.{NetData, wire_at, is_input, input_place, with_input, inputs_from, inputs_of}
 use Rattle.net_model.specs.Validity.{IsValid}
-use Rattle.net_model.proofs.ValidityFacts.{in_kind, const-valid}
+use Rattle.net_model.proofs.ValidityFacts.{IsInKind, in_kind, const-valid, delay-valid}
 use Rattle.net_meaning.specs.Blocks.{machine}
-use Rattle.net_meaning.specs.Runs.{equation_of}
-use Rattle.net_eval.proofs.FaithfulSteps.{IsFaithful}
+use Rattle.net_meaning.specs.Runs.{is_first, equation_of}
+use Rattle.net_eval.specs.declared.states.State.TheVariants.{Held}
+use Rattle.net_eval.specs.After.{held_after}
+use Rattle.net_eval.specs.States.{held_in}
+use Rattle.net_eval.specs.Steps.{value_at}
+use Rattle.net_eval.proofs.FaithfulSteps.{IsFaithful, IsKeptRight, AreHeld, cells_of, value_at-values_in}
 
 -- ---- the places of inputs
 
 longer : (item : Item) (rest : List WireNo) (j n : ℕ) → n < length rest → cond (is_input item) (1 + n) n < length (with_input item j rest)
 longer (Input lo hi) rest j n h = omega arith
 longer (Const value) rest j n h = h
+longer (Delay init source) rest j n h = h
 longer (OfBlock b) rest j n h = h
 
 not_empty : (item : Item) (rest : List WireNo) (j : ℕ) → is_input item ≡ true → 0 < length (with_input item j rest)
 not_empty (Input lo hi) rest j h = omega arith
 not_empty (Const value) rest j h = absurd (cc)
+not_empty (Delay init source) rest j h = absurd (cc)
 not_empty (OfBlock b) rest j h = absurd (cc)
 
 -- how many of the wires are inputs, from the first on
@@ -57,4 +64,35 @@ const_faithful net i value valid lt e = record {
   ready = λ state inputs values one_each len held may. tt;
   held = λ state inputs values typed may. const-valid net i value valid lt e;
   right = λ state inputs rows past cells kept. refl;
+}
+
+-- ---- delays
+
+-- what a delay answers is what its equation says
+delay_answer : (init newest : ℤ) (inputs : List ℤ) (rows : List (List ℤ)) → held_after init rows newest ≡ (if is_first (inputs ∷ rows) then init else newest)
+delay_answer init newest inputs [] = refl
+delay_answer init newest inputs (row ∷ rows) = rw (lt-leb (length (inputs ∷ row ∷ rows)) 1 (omega arith)) refl
+
+pub delay_faithful : (net : NetData) (i : ℕ) (init : ℤ) (source : WireNo) → IsFaithful net i (Delay init source)
+unfolding equation_of machine
+delay_faithful net i init source = record {
+  ready = λ state inputs values one_each len held may. tt;
+  held = λ state inputs values typed may. record { low = may.1; high = may.2 };
+  right = λ state inputs rows past cells kept. ap held_in kept ∙ delay_answer init _ inputs rows;
+}
+
+-- its source's value lies in its own kind
+source_held : (net : NetData) (i : ℕ) (init : ℤ) (source : WireNo) (all : List ℤ) → IsValid net → i < length net.wires → (wire_at net.wires i).item ≡ Delay init source → AreHeld net all (length net.wires) → IsInKind (wire_at net.wires i).kind (value_at all source.0)
+source_held net i init source all valid lt e held =
+    let g = delay-valid net i init source valid lt e in
+    subst (λ kind. IsInKind kind (value_at all source.0)) g.same (held source.0 g.there)
+
+pub delay_kept : (net : NetData) (i : ℕ) (init : ℤ) (source : WireNo) → IsValid net → i < length net.wires → (wire_at net.wires i).item ≡ Delay init source → IsKeptRight net i (Delay init source)
+delay_kept net i init source valid lt e = record {
+  start = refl;
+  next = λ state inputs rows past kept. ap Held (value_at-values_in (cells_of net (inputs ∷ rows) past) source.0);
+  may_start = let first = in_kind _ _ (delay-valid net i init source valid lt e).holds in (refl, first.low, first.high);
+  may_next = λ state values all held may.
+      let h = source_held net i init source all valid lt e held in (refl, h.low, h.high);
+  back = λ state may. refl;
 }

@@ -1,20 +1,22 @@
 -- How the steps, their values and the states grow, wire by wire.
-use Rattle.std.proofs.Common.{◌≡◌, ℕ, zero, suc, ◌+◌, ◌^◌, ◌<◌, ◌≤◌, Bool, true, false, List, [], ◌∷◌, ◌++◌, length, set, take, ℤ, nat_lt, refl, sym, ap, ap₂, ◌∙◌, arith, add-one, ltb-true}
+use Rattle.std.proofs.Common.{◌≡◌, ℕ, zero, suc, ◌+◌, ◌^◌, ◌<◌, ◌≤◌, Bool, true, false, List, [], ◌∷◌, ◌++◌, length, set, take, ℤ, nat_lt, ◌≢◌, refl, sym, ap, ap₂, ◌∙◌, arith, add-one, ltb-true}
 use Rattle.std.specs.List.{list_all}
 use Rattle.std.proofs.lemmas.Bool.{and_parts}
-use Rattle.std.proofs.lemmas.List.{length-take-le, take_more_set, get_or-set_other}
+use Rattle.std.proofs.lemmas.List.{append-nil, length-set, length-take-le, take_more, take_more_set, get_or-set_other}
 use Rattle.std.proofs.lemmas.List.Sums.{count_by_more_no, count_by_more_yes, count_by-le-length}
 use Rattle.net_model.specs.declared.wires.WireNo.{WireNo}
 use Rattle.net_model.specs.declared.wires.Item.{Item}
+use Rattle.net_model.specs.declared.wires.Item.TheVariants.{Input, Const, Delay, Block as OfBlock}
 use Rattle.net_model.specs.declared.wires.Wire.{Wire}
 use Rattle.net_model.specs.Wires.{NetData, wire_at, no_wire, is_input, input_place}
 use Rattle.net_model.specs.Validity.{IsValid}
 use Rattle.net_model.proofs.ValidityFacts.{length-valid, outs-valid}
 use Rattle.net_eval.specs.declared.states.State.{State}
-use Rattle.net_eval.specs.declared.states.State.TheVariants.{Nothing}
+use Rattle.net_eval.specs.declared.states.State.TheVariants.{Nothing, Held}
 use Rattle.net_eval.specs.declared.steps.Step.{Step}
+use Rattle.net_eval.specs.declared.resolving.Handover.{Handover}
 use Rattle.net_eval.specs.States.{start_of, starts_of, state_at}
-use Rattle.net_eval.specs.Steps.{step_of, steps_of, step_at, step_value, state_behind, kept_behind, values_of, states_of}
+use Rattle.net_eval.specs.Steps.{handover_of, handovers_of, handed_over, handover_at, step_of, steps_of, step_at, step_value, state_behind, kept_behind, value_at, values_of, states_of}
 use Rattle.net_eval.specs.Picking.{AreBelow}
 use Rattle.net_eval.proofs.Listings.{list_push, list_set}
 
@@ -72,6 +74,29 @@ pub starts_set : (net : NetData) (i : ℕ) (states : List State) (state : State)
 unfolding starts_of
 starts_set net i states state lt h e = list_set (start_of net) states state i lt e h
 
+-- ---- handovers
+
+pub handovers_start : (net : NetData) → [] ≡ handovers_of net 0
+unfolding handovers_of
+handovers_start net = refl
+
+-- one more wire's
+pub handovers_push : (net : NetData) (i : ℕ) (handovers : List Handover) (item : Item) → item ≡ (wire_at net.wires i).item → handovers ≡ handovers_of net i → handovers ++ handover_of i item ≡ handovers_of net (i + 1)
+unfolding handovers_of
+handovers_push net i handovers item is e =
+    ap₂ (λ hs t. hs ++ handover_of i t) e is ∙ sym (ap (handovers_of net) (add-one i))
+
+-- what is no delay is handed nothing
+no_handover : (i : ℕ) (item : Item) → ((init : ℤ) (source : WireNo) → item ≢ Delay init source) → handover_of i item ≡ []
+no_handover i (Input lo hi) other = refl
+no_handover i (Const value) other = refl
+no_handover i (Delay init source) other = absurd (other init source refl)
+no_handover i (OfBlock b) other = refl
+
+pub handovers_same : (net : NetData) (i : ℕ) (handovers : List Handover) (item : Item) → item ≡ (wire_at net.wires i).item → ((init : ℤ) (source : WireNo) → item ≢ Delay init source) → handovers ≡ handovers_of net i → handovers ≡ handovers_of net (i + 1)
+handovers_same net i handovers item is other e =
+    sym (append-nil handovers) ∙ ap (λ hs. handovers ++ hs) (sym (no_handover i item other)) ∙ handovers_push net i handovers item is e
+
 -- ---- a row's values, and the states behind it
 
 pub values_start : (steps : List Step) (states : List State) (inputs : List ℤ) → [] ≡ values_of steps states inputs 0
@@ -93,6 +118,27 @@ pub states_set : (steps : List Step) (states now : List State) (inputs values : 
 unfolding states_of
 states_set steps states now inputs values i step state new lt v e h taken old =
     list_set (kept_behind steps states inputs) now new i lt e (h ∙ ap (λ s. state_behind s state (take i values)) taken ∙ ap₂ (λ s l. state_behind (step_at steps i) s l) old v)
+
+-- no handover yet, and one more
+pub handed_none : (values : List ℤ) (states : List State) → states ≡ handed_over [] values states
+unfolding handed_over
+handed_none values states = refl
+
+pub handed_one : (handovers : List Handover) (h : Handover) (values : List ℤ) (states : List State) → set (handed_over handovers values states) h.delay (Held (value_at values h.source)) ≡ handed_over (handovers ++ h ∷ []) values states
+unfolding handed_over
+handed_one [] h values states = refl
+handed_one (first ∷ rest) h values states = handed_one rest h values (set states first.delay (Held (value_at values first.source)))
+
+pub handed_push : (handovers : List Handover) (values : List ℤ) (states now : List State) (k : ℕ) (v : ℤ) → k < length handovers → v ≡ value_at values (handover_at handovers k).source → now ≡ handed_over (take k handovers) values states → set now (handover_at handovers k).delay (Held v) ≡ handed_over (take (k + 1) handovers) values states
+handed_push handovers values states now k v lt is e =
+    ap₂ (λ l n. set l (handover_at handovers k).delay (Held n)) e is
+    ∙ handed_one (take k handovers) (handover_at handovers k) values states
+    ∙ ap (λ hs. handed_over hs values states) (sym (take_more handovers k (record { delay = 0; source = 0 }) lt))
+
+pub length-handed_over : (handovers : List Handover) (values : List ℤ) (states : List State) → length (handed_over handovers values states) ≡ length states
+unfolding handed_over
+length-handed_over [] values states = refl
+length-handed_over (h ∷ rest) values states = length-handed_over rest values (set states h.delay (Held (value_at values h.source))) ∙ length-set states h.delay (Held (value_at values h.source))
 
 -- what stands from one place on isn't touched by what is set before it
 pub rest_set : (states now : List State) (i : ℕ) (new : State) → ((k : ℕ) → i ≤ k → state_at now k ≡ state_at states k) → (k : ℕ) → i + 1 ≤ k → state_at (set now i new) k ≡ state_at states k

@@ -4,7 +4,7 @@ ghost use Rattle.net_eval.specs.After.{IsAfter, outputs_of};
 ghost use Rattle.net_eval.specs.Typing.{AreTyped};
 
 use crate::filling::evaluate;
-use crate::resolving::resolve;
+use crate::resolving::{Handover, find_handovers, resolve};
 use crate::states::{State, restart, start};
 use crate::steps::Step;
 use net_model::Network;
@@ -17,6 +17,7 @@ use std::marker::Model;
 pub struct Plan<'a> {
     net: &'a Network,
     steps: Vec<Step>,
+    handovers: Vec<Handover>,
     states: Vec<State>,
     values: Vec<i64>,
 }
@@ -31,7 +32,7 @@ impl<'a> Model for Plan<'a> {
 
     ghost view = { λ p. record { net = p.net.now; kept = p.states.items } };
 
-    ghost invariant = { λ p. ArePlanned p.net.now p.steps.items p.states.items
+    ghost invariant = { λ p. ArePlanned p.net.now p.steps.items p.handovers.items p.states.items
         × (length p.values.items ≡ length p.net.now.wires) };
 }
 
@@ -42,11 +43,13 @@ impl<'a> Plan<'a> {
         ensures start { IfOk result (λ p. IsAfter net.now [] p.kept) }
     {
         let steps = resolve(alloc, net)?;
+        let handovers = find_handovers(alloc, net)?;
         let states = start(alloc, net)?;
         let values = vec![in alloc; 0; net.wires().len()]?;
         Ok(Plan {
             net,
             steps,
+            handovers,
             states,
             values,
         })
@@ -67,6 +70,7 @@ impl<'a> Plan<'a> {
         evaluate(
             self.net,
             &self.steps,
+            &self.handovers,
             &mut self.states,
             inputs,
             &mut self.values,

@@ -1,13 +1,14 @@
-// One row: the value of each step in turn, and the outputs read off them.
+// One row: the value of each step in turn, the outputs read off them, and what delays are handed behind it.
 
 ghost use Rattle.std.specs.Prelude.{◌≡◌, ◌<◌, ℕ, ℤ, List, ◌∷◌, length, map};
 ghost use Rattle.net_model.specs.Wires.{inputs_of};
 ghost use Rattle.net_eval.specs.After.{IsAfter, outputs_of};
 ghost use Rattle.net_eval.specs.States.{AreKept};
-ghost use Rattle.net_eval.specs.Steps.{AreReady, ArePlanned, states_of, value_at, values_of};
+ghost use Rattle.net_eval.specs.Steps.{AreAmong, AreReady, ArePlanned, handed_over, states_of, value_at, values_of};
 ghost use Rattle.net_eval.specs.Picking.{AreBelow};
 ghost use Rattle.net_eval.specs.Typing.{AreTyped};
 
+use crate::resolving::Handover;
 use crate::states::State;
 use crate::steps::{Step, step_value};
 use net_model::{Network, WireNo};
@@ -17,12 +18,13 @@ use net_model::{Network, WireNo};
 pub(crate) fn evaluate(
     net: &Network,
     steps: &[Step],
+    handovers: &[Handover],
     states: &mut [State],
     inputs: &[i64],
     buffer: &mut [i64],
     out: &mut [i64],
 )
-    requires planned { ArePlanned net.now steps.now states.old }
+    requires planned { ArePlanned net.now steps.now handovers.now states.old }
     requires one_each { length inputs.now ≡ length (inputs_of net.now.wires) }
     requires typed { AreTyped net.now inputs.now }
     requires buffer { length buffer.old ≡ length net.now.wires }
@@ -34,10 +36,11 @@ pub(crate) fn evaluate(
         → out.new ≡ outputs_of net.now (inputs.now ∷ rows) }
 {
     fill(steps, states, inputs, buffer);
+    hand_over(handovers, buffer, states);
     pick(net.outs(), buffer, out);
 }
 
-/// Writes the value of each step, from the first on, and what its wire keeps behind the row.
+/// Writes the value of each step, from the first on, and what its wire keeps behind the step.
 fn fill(steps: &[Step], states: &mut [State], inputs: &[i64], values: &mut [i64])
     requires states { length states.old ≡ length steps.now }
     requires room { length values.old ≡ length steps.now }
@@ -48,6 +51,18 @@ fn fill(steps: &[Step], states: &mut [State], inputs: &[i64], values: &mut [i64]
     for i in 0..steps.len() {
         let value = step_value(&steps[i], &mut states[i], inputs, &values[..i]);
         values[i] = value;
+    }
+}
+
+/// Hands the values of the delays' sources over to the next row. It comes behind all steps, since a source may be a later wire.
+fn hand_over(handovers: &[Handover], values: &[i64], states: &mut [State])
+    requires one_each { length values.now ≡ length states.old }
+    requires there { AreAmong handovers.now (length states.old) }
+    ensures { states.new ≡ handed_over handovers.now values.now states.old }
+{
+    for k in 0..handovers.len() {
+        let Handover { delay, source } = handovers[k];
+        states[delay] = State::Held(values[source]);
     }
 }
 

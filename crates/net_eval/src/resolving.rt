@@ -1,13 +1,22 @@
-// The table of steps: a network's wires with all that they read looked up once.
+// The tables of steps and of handovers: a network's wires with all that they read looked up once.
 
 ghost use Rattle.std.specs.Prelude.{◌≡◌, ◌<◌, IfOk, length};
 ghost use Rattle.net_model.specs.Wires.{input_place, wire_at};
 ghost use Rattle.net_model.specs.Validity.{IsValid};
-ghost use Rattle.net_eval.specs.Steps.{step_of, steps_of};
+ghost use Rattle.net_eval.specs.Steps.{handovers_of, step_of, steps_of};
 
 use crate::steps::{Step, block_step};
 use net_model::{Item, Network, WireNo};
 use std::alloc::{AllocError, Global};
+
+/// What a delay is handed behind each row: the value of its source.
+#[derive(Clone, Copy)]
+pub(crate) struct Handover {
+    /// The delay's wire.
+    pub delay: usize,
+    /// The wire whose value it answers a row later, which may be a later one.
+    pub source: usize,
+}
 
 /// The steps of a network, one for each wire.
 #[tactic(auto, using(crate::proofs::StepFacts::steps_start))]
@@ -37,8 +46,26 @@ fn step_of(net: &Network, wire: WireNo, place: usize) -> Step
     match item_at(net, wire) {
         Item::Input { .. } => Step::Read { place },
         Item::Const { value } => Step::Fixed { value },
+        Item::Delay { .. } => Step::Delay,
         Item::Block(block) => block_step(net, wire, block),
     }
+}
+
+/// The handovers of a network, one for each delay.
+pub(crate) fn find_handovers(alloc: Global, net: &Network) -> Result<Vec<Handover>, AllocError>
+    ensures { IfOk result (λ handovers. handovers.items ≡ handovers_of net.now (length net.now.wires)) }
+{
+    let mut handovers = Vec::new(alloc);
+    let wires = net.wires();
+    for i in 0..wires.len() {
+        if let Item::Delay { source, .. } = item_at(net, WireNo(i as u32)) {
+            handovers.push(Handover {
+                delay: i,
+                source: source.0 as usize,
+            })?;
+        }
+    }
+    Ok(handovers)
 }
 
 /// What gives a wire its value.

@@ -5,7 +5,7 @@ ghost use Rattle.net_model.specs.Wires.{point_of, wire_at};
 ghost use Rattle.net_model.specs.Validity.{IsValid};
 ghost use Rattle.net_eval.specs.Steps.{IsReady, block_step, state_behind, step_value};
 
-use crate::states::State;
+use crate::states::{State, filter, held};
 use mfx_arith::{ArithOp, Variant};
 use mfx_scaled::{Points, ScaledOp};
 use net_model::{Block, Item, Kind, Network, WireNo};
@@ -21,6 +21,8 @@ pub(crate) enum Step {
     Fixed {
         value: i64,
     },
+    /// The value that the wire's state holds for this row.
+    Delay,
     /// What an operation makes of the values of earlier wires.
     Arith {
         op: ArithOp,
@@ -37,6 +39,10 @@ pub(crate) enum Step {
         x: usize,
         y: usize,
         points: Points,
+    },
+    /// What a filter, which is the wire's state, makes of the value of an earlier wire.
+    Filter {
+        x: usize,
     },
 }
 
@@ -68,6 +74,10 @@ pub(crate) fn block_step(net: &Network, wire: WireNo, block: Block) -> Step
                 c: point_at(net, wire),
             },
         },
+        Block::Gain { x, .. }
+        | Block::Average { x, .. }
+        | Block::Pt1 { x, .. }
+        | Block::Dt1 { x, .. } => Step::Filter { x: x.0 as usize },
     }
 }
 
@@ -82,8 +92,8 @@ fn point_at(net: &Network, wire: WireNo) -> u8
     }
 }
 
-/// The value of a step, from what its wire keeps, the row's inputs and the values of the earlier wires. What the wire keeps
-/// becomes that behind the row: no built step reads or changes it.
+/// The value of a step, from what its wire keeps, the row's inputs and the values of the earlier wires. A filter steps on; what a
+/// delay holds is handed over behind the row.
 pub(crate) fn step_value(step: &Step, state: &mut State, inputs: &[i64], values: &[i64]) -> i64
     requires { IsReady step.now state.old inputs.now values.now }
     ensures value { result ≡ step_value step.now state.old inputs.now values.now }
@@ -92,6 +102,7 @@ pub(crate) fn step_value(step: &Step, state: &mut State, inputs: &[i64], values:
     match *step {
         Step::Read { place } => inputs[place],
         Step::Fixed { value } => value,
+        Step::Delay => held(state),
         Step::Arith {
             op,
             v,
@@ -107,5 +118,6 @@ pub(crate) fn step_value(step: &Step, state: &mut State, inputs: &[i64], values:
             y,
             points,
         } => { mfx_scaled::call(op, v, values[x], values[y], points) }
+        Step::Filter { x } => filter(state, values[x]),
     }
 }

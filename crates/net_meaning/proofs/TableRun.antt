@@ -18,7 +18,7 @@ row-length M net rows past zero = refl
 row-length M net rows past (suc n) = length_push _ _ ∙ omega (arith, row-length M net rows past n)
 
 -- more wires leave the cells of the first ones
-row-prefix : {V : Type 0} (M : Meaning V) (net : NetData) (rows : List (List ℤ)) (past : List (List (Cell V))) (d : Cell V) (m n i : ℕ) → i < m → m ≤ n → get_or (row_of M net rows past n) i d ≡ get_or (row_of M net rows past m) i d
+pub row-prefix : {V : Type 0} (M : Meaning V) (net : NetData) (rows : List (List ℤ)) (past : List (List (Cell V))) (d : Cell V) (m n i : ℕ) → i < m → m ≤ n → get_or (row_of M net rows past n) i d ≡ get_or (row_of M net rows past m) i d
 unfolding row_of
 row-prefix M net rows past d m zero i h l = absurd (omega arith)
 row-prefix M net rows past d m (suc n) i h l =
@@ -33,7 +33,7 @@ unfolding row_of
 row-last M net rows past d i = get_or_push (row_of M net rows past i) _ d i (row-length M net rows past i)
 
 -- so each meets it over the whole row
-row-meets : {V : Type 0} (M : Meaning V) (net : NetData) → IsOrdered net → (rows : List (List ℤ)) (past : List (List (Cell V))) (i : ℕ) → i < length net.wires → cell_at M (row_of M net rows past (length net.wires) ∷ past) 0 i ≡ equation M net rows (cell_at M (row_of M net rows past (length net.wires) ∷ past)) i
+pub row-meets : {V : Type 0} (M : Meaning V) (net : NetData) → IsOrdered net → (rows : List (List ℤ)) (past : List (List (Cell V))) (i : ℕ) → i < length net.wires → cell_at M (row_of M net rows past (length net.wires) ∷ past) 0 i ≡ equation M net rows (cell_at M (row_of M net rows past (length net.wires) ∷ past)) i
 row-meets M net ordered rows past i h =
     let n = length net.wires in
     let zeros = plain M (pos 0) in

@@ -11,4 +11,4 @@ overflow_cast-i c =
 
 pub loop-i-preserved : goal.loop-i-preserved
 loop-i-preserved c =
-    c.in_ok-push.ensures.items ∙ starts_push c.args.net.now c.loop-i.i c.loop-i.states.items c.start_of.result c.start_of.ensures c.loop-i.invariant
+    c.in_ok-push.ensures.items ∙ starts_push c.args.net.now c.loop-i.i c.loop-i.states.items c.in_ok-state.state c.in_ok-state.ensures c.loop-i.invariant
