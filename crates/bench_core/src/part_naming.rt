@@ -1,23 +1,77 @@
-ghost use Rattle.std.specs.Prelude.{◌≡◌, ◌<◌, length};
-ghost use Rattle.net_model.specs.Wires.{parts_of};
-ghost use Rattle.bench_core.specs.PartNames.{part_name};
+// How parts are named in texts, and the refusal that names one.
+ghost use Rattle.std.specs.Prelude.{◌≡◌, ◌<◌, ◌++◌, codes, IfOk, bytes_eq, length};
+ghost use Rattle.net_model.specs.Wires.{parts_of, wire_at};
+ghost use Rattle.cert_rules.specs.Acceptance.{part_at};
+ghost use Rattle.bench_core.specs.HowItEnds.{RefusesWith};
+ghost use Rattle.bench_core.specs.Outcomes.{line};
+ghost use Rattle.bench_core.specs.PartNames.{part_name, role_suffix};
+ghost use Rattle.bench_core.specs.RefusalTexts.{not_accepted};
 
-use net_model::{Network, PartNo};
+use super::endings::Ending;
+use super::notice::Notice;
+use net_model::{Network, Part, PartNo, Role};
+use std::alloc::{AllocError, Global};
 
-/// The name of a part in texts: its wire's.
-pub fn part_name(net: &Network, part: PartNo) -> &[u8]
-    requires { part.0 < length (parts_of net.now.wires) }
-    ensures { result.now ≡ part_name net.now part.0 }
+/// Whether a word is the name of part number `k`, from 0.
+pub fn is_part_name(net: &Network, k: usize, word: &[u8]) -> bool
+    requires { k < length (parts_of net.now.wires) }
+    ensures { result ≡ bytes_eq (part_name net.now k) word.now }
 {
-    name_at(net, part.0 as usize)
+    let part = part_at(net, k);
+    is_joined(wire_name(net, part), role_suffix(part.role), word)
 }
 
-/// The name of part number `k`, from 0.
-#[tactic(auto, using(crate::proofs::PartPlaces::part_steps))]
-pub fn name_at(net: &Network, k: usize) -> &[u8]
-    requires { k < length (parts_of net.now.wires) }
-    ensures { result.now ≡ part_name net.now k }
+/// The part that fails first isn't accepted.
+pub(crate) fn refuse_part(alloc: Global, net: &Network, part: PartNo) -> Ending
+    requires { part.0 < length (parts_of net.now.wires) }
+    ensures { RefusesWith (not_accepted (part_name net.now part.0)) result }
 {
-    let part = net.parts()[k];
+    let part = part_at(net, part.0 as usize);
+    match not_accepted_line(alloc, wire_name(net, part), role_suffix(part.role)) {
+        Ok(text) => Ending::Refused(Notice { status: 6, text }),
+        Err(_) => Ending::OutOfMemory,
+    }
+}
+
+fn not_accepted_line(alloc: Global, wire: &[u8], suffix: &[u8]) -> Result<Vec<u8>, AllocError>
+    ensures { IfOk result (λ text. text.items ≡ line (codes "not accepted: ") (wire.now ++ suffix.now)) }
+{
+    [b"not accepted: ", wire, suffix, b"\n"].concat(alloc)
+}
+
+fn part_at(net: &Network, k: usize) -> Part
+    requires { k < length (parts_of net.now.wires) }
+    ensures part { result ≡ part_at net.now k }
+    ensures wire { result.wire.0 < length net.now.wires }
+{
+    net.parts()[k]
+}
+
+// The name of the wire on which a part stands.
+fn wire_name(net: &Network, part: Part) -> &[u8]
+    requires { part.wire.0 < length net.now.wires }
+    ensures { result.now ≡ (wire_at net.now.wires part.wire.0).name }
+{
     net.wires()[part.wire.0 as usize].name.bytes()
+}
+
+/// What stands behind the wire's name in the name of a part.
+fn role_suffix(role: Role) -> &'static [u8]
+    ensures { result.now ≡ role_suffix role }
+{
+    match role {
+        Role::Y => b".Y",
+        Role::X1 => b".X1",
+        Role::X2 => b".X2",
+        Role::W => b".W",
+        Role::Value => b"",
+    }
+}
+
+// Whether a word is made of two pieces.
+#[tactic(auto, using(crate::proofs::PartPlaces::joined))]
+fn is_joined(front: &[u8], back: &[u8], word: &[u8]) -> bool
+    ensures { result ≡ bytes_eq (front.now ++ back.now) word.now }
+{
+    front.len() <= word.len() && front == &word[..front.len()] && back == &word[front.len()..]
 }

@@ -13,7 +13,7 @@ use super::cert_kind::CertError;
 use super::cert_reader::read_certificate;
 use super::endings::Ending;
 use super::fault_refusals::refuse_network;
-use super::part_naming::part_name;
+use super::part_naming::refuse_part;
 use super::refusals::{refuse, unread};
 use cert_checker::{Rejected, check};
 use cert_rules::Certificate;
@@ -114,9 +114,7 @@ pub(crate) fn accept(
     is_smooth(network);
     match check(network, certificate) {
         Ok(_) => Ok(()),
-        Err(Rejected { part }) => {
-            Err(refuse(alloc, 6, b"not accepted: ", part_name(network, part)))
-        }
+        Err(Rejected { part }) => Err(refuse_part(alloc, network, part)),
     }
 }
 
