@@ -1,14 +1,13 @@
 // How parts are named in texts, and the refusal that names one.
-ghost use Rattle.std.specs.Prelude.{◌≡◌, ◌<◌, ◌++◌, codes, IfOk, bytes_eq, length};
+ghost use Rattle.std.specs.Prelude.{◌≡◌, ◌<◌, ◌++◌, IfOk, bytes_eq, length};
 ghost use Rattle.net_model.specs.Wires.{parts_of, wire_at};
 ghost use Rattle.cert_rules.specs.Acceptance.{part_at};
 ghost use Rattle.bench_core.specs.HowItEnds.{RefusesWith};
-ghost use Rattle.bench_core.specs.Outcomes.{line};
 ghost use Rattle.bench_core.specs.PartNames.{part_name, role_suffix};
 ghost use Rattle.bench_core.specs.RefusalTexts.{not_accepted};
 
 use super::endings::Ending;
-use super::notice::Notice;
+use super::refusals::refuse;
 use net_model::{Network, Part, PartNo, Role};
 use std::alloc::{AllocError, Global};
 
@@ -27,16 +26,17 @@ pub(crate) fn refuse_part(alloc: Global, net: &Network, part: PartNo) -> Ending
     ensures { RefusesWith (not_accepted (part_name net.now part.0)) result }
 {
     let part = part_at(net, part.0 as usize);
-    match not_accepted_line(alloc, wire_name(net, part), role_suffix(part.role)) {
-        Ok(text) => Ending::Refused(Notice { status: 6, text }),
+    match joined(alloc, wire_name(net, part), role_suffix(part.role)) {
+        Ok(name) => refuse(alloc, 6, b"not accepted: ", &name),
         Err(_) => Ending::OutOfMemory,
     }
 }
 
-fn not_accepted_line(alloc: Global, wire: &[u8], suffix: &[u8]) -> Result<Vec<u8>, AllocError>
-    ensures { IfOk result (λ text. text.items ≡ line (codes "not accepted: ") (wire.now ++ suffix.now)) }
+// The text that two pieces make.
+fn joined(alloc: Global, front: &[u8], back: &[u8]) -> Result<Vec<u8>, AllocError>
+    ensures { IfOk result (λ text. text.items ≡ front.now ++ back.now) }
 {
-    [b"not accepted: ", wire, suffix, b"\n"].concat(alloc)
+    [front, back].concat(alloc)
 }
 
 fn part_at(net: &Network, k: usize) -> Part
@@ -69,9 +69,15 @@ fn role_suffix(role: Role) -> &'static [u8]
 }
 
 // Whether a word is made of two pieces.
-#[tactic(auto, using(crate::proofs::PartPlaces::joined))]
+#[tactic(auto, using(crate::proofs::PartPlaces::joined_short, crate::proofs::PartPlaces::joined_differs, crate::proofs::PartPlaces::joined_rest))]
 fn is_joined(front: &[u8], back: &[u8], word: &[u8]) -> bool
     ensures { result ≡ bytes_eq (front.now ++ back.now) word.now }
 {
-    front.len() <= word.len() && front == &word[..front.len()] && back == &word[front.len()..]
+    if word.len() < front.len() {
+        return false;
+    }
+    if front != &word[..front.len()] {
+        return false;
+    }
+    back == &word[front.len()..]
 }
