@@ -1,4 +1,4 @@
-use Rattle.std.proofs.Common.{ap, arith, rules}
+use Rattle.std.proofs.Common.{rules}
 use Rattle.std.proofs.lemmas.List.{get_or_default}
 use Rattle.net_eval.specs.declared.states.State.TheVariants.{Nothing}
 use Rattle.net_eval.proofs.StepFacts.{handed_none, handed_push}
