@@ -8,7 +8,6 @@ pub mod CertificateLaws
 pub mod PassedSteps
 pub mod HeadlineLaws
 pub mod RunHeadline
-pub mod RejectedPlaces
 pub mod RequestLaws
 pub mod TypedRows
 pub mod PrintedLines

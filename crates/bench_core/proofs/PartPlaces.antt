@@ -1,21 +1,40 @@
--- Where the parts of a network stand, and how they are named.
-use Rattle.std.proofs.Common.{◌≡◌, ℕ, ◌<◌, List, ◌++◌, length, append-nil}
-use Rattle.net_model.specs.declared.wires.Role.{Role}
-use Rattle.net_model.specs.declared.wires.Role.TheVariants.{Value}
-use Rattle.net_model.specs.Wires.{NetData, parts_of, wire_at}
-use Rattle.net_model.proofs.PartPlaces.{part_there}
-use Rattle.cert_rules.specs.Acceptance.{part_at}
-use Rattle.bench_core.specs.PartNames.{part_name, role_suffix}
+-- When a word is one of two pieces.
+use Rattle.std.proofs.Common.{◌≡◌, ℕ, zero, suc, ◌-◌, ◌<◌, ◌≤◌, Bool, true, false, ◌&&◌, ◌==◌, List, [], ◌∷◌, ◌++◌, take, drop, length, bytes_eq, refl, sym, ap, ap₂, ◌∙◌, arith}
+use Rattle.std.proofs.lemmas.List.{length-drop}
 
--- each part is of one of the wires
-pub part_at-below : (net : NetData) (k : ℕ) → k < length (parts_of net.wires) → (part_at net k).wire.0 < length net.wires
-part_at-below net k there = (part_there net k there).wire
+and_assoc : (a b c : Bool) → ((a && b) && c) ≡ (a && (b && c))
+and_assoc true b c = refl
+and_assoc false b c = refl
 
-suffix_is_empty : (role : Role) (name : List ℕ) → name ++ role_suffix role ≡ name
-suffix_is_empty Value name = append-nil name
+-- a word begins with the first piece, and the second one is all that is left
+joined : (front back word : List ℕ) → length front ≤ length word → (bytes_eq front (take (length front) word) && bytes_eq back (drop (length front) word)) ≡ bytes_eq (front ++ back) word
+joined [] back word h = refl
+joined (x ∷ front) back [] h = absurd (omega arith)
+joined (x ∷ front) back (y ∷ word) h =
+    and_assoc (x == y) (bytes_eq front (take (length front) word)) (bytes_eq back (drop (length front) word))
+    ∙ ap (λ t. (x == y) && t) (joined front back word (omega arith))
 
--- a part is named as its wire is
-pub part_name-wire : (net : NetData) (k : ℕ) → part_name net k ≡ (wire_at net.wires (part_at net k).wire.0).name
-part_name-wire net k = suffix_is_empty (part_at net k).role (wire_at net.wires (part_at net k).wire.0).name
+pub joined_short : (front back word : List ℕ) → length word < length front → false ≡ bytes_eq (front ++ back) word
+joined_short [] back word h = absurd (omega arith)
+joined_short (x ∷ front) back [] h = refl
+joined_short (x ∷ front) back (y ∷ word) h =
+    sym (and_false (x == y)) ∙ ap (λ t. (x == y) && t) (joined_short front back word (omega arith))
+  where
+    and_false : (a : Bool) → (a && false) ≡ false
+    and_false true = refl
+    and_false false = refl
 
-pub ruleset part_steps = (part_at-below, part_name-wire)
+pub joined_differs : (front back word : List ℕ) → length front ≤ length word → bytes_eq front (take (length front) word) ≡ false → false ≡ bytes_eq (front ++ back) word
+joined_differs front back word h e = sym (ap (λ t. t && bytes_eq back (drop (length front) word)) e) ∙ joined front back word h
+
+-- all of a text is left of it where nothing is cut off
+take_enough : (xs : List ℕ) (k : ℕ) → length xs ≤ k → take k xs ≡ xs
+take_enough [] zero h = refl
+take_enough [] (suc k) h = refl
+take_enough (x ∷ xs) zero h = absurd (omega arith)
+take_enough (x ∷ xs) (suc k) h = ap (λ t. x ∷ t) (take_enough xs k (omega arith))
+
+pub joined_rest : (front back word : List ℕ) → length front ≤ length word → bytes_eq front (take (length front) word) ≡ true → bytes_eq back (take (length word - length front) (drop (length front) word)) ≡ bytes_eq (front ++ back) word
+joined_rest front back word h e =
+    let rest = take_enough (drop (length front) word) (length word - length front) (omega (arith, length-drop (length front) word)) in
+    ap (bytes_eq back) rest ∙ sym (ap (λ t. t && bytes_eq back (drop (length front) word)) e) ∙ joined front back word h

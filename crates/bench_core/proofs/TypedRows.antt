@@ -8,7 +8,7 @@ use Rattle.net_model.specs.declared.wires.WireNo.{WireNo}
 use Rattle.net_model.specs.declared.wires.Kind.{Kind}
 use Rattle.net_model.specs.declared.wires.Kind.TheVariants.{Num}
 use Rattle.net_model.specs.declared.wires.Item.{Item}
-use Rattle.net_model.specs.declared.wires.Item.TheVariants.{Input, Const, Block as OfBlock}
+use Rattle.net_model.specs.declared.wires.Item.TheVariants.{Input, Const, Delay, Block as OfBlock}
 use Rattle.net_model.specs.declared.wires.Wire.{Wire}
 use Rattle.net_model.specs.Wires.{NetData, wire_at, is_input, input_place, with_input, inputs_from, inputs_of}
 use Rattle.net_model.specs.Validity.{kind_holds}
@@ -116,12 +116,14 @@ IsNumbered numbers n wire = (n < length numbers) × ((get_or numbers n no_number
 first_numbered : (item : Item) (j : ℕ) (rest : List WireNo) → is_input item ≡ true → IsNumbered (with_input item j rest) 0 j
 first_numbered (Input lo hi) j rest h = (omega arith, refl)
 first_numbered (Const value) j rest h = absurd (cc)
+first_numbered (Delay init source) j rest h = absurd (cc)
 first_numbered (OfBlock b) j rest h = absurd (cc)
 
 later_numbered : (item : Item) (j : ℕ) (rest : List WireNo) (n wire : ℕ) → IsNumbered rest n wire → IsNumbered (with_input item j rest) (cond (is_input item) (1 + n) n) wire
 later_numbered (Input lo hi) j rest n wire h =
     (omega (arith, h.0), subst (λ m. (get_or (with_input (Input lo hi) j rest) m no_number).0 ≡ wire) (sym (one-add n)) h.1)
 later_numbered (Const value) j rest n wire h = h
+later_numbered (Delay init source) j rest n wire h = h
 later_numbered (OfBlock b) j rest n wire h = h
 
 numbered_from : (wires : List Wire) (j i : ℕ) → i < length wires → is_input (wire_at wires i).item ≡ true → IsNumbered (inputs_from j wires) (input_count (take i wires)) (j + i)

@@ -4,7 +4,7 @@ ghost use Rattle.text_words.specs.Lines.{words_of};
 ghost use Rattle.bench_core.specs.CertificateText.{names_next, number_within, part_line};
 
 use crate::cert_kind::CertKind;
-use crate::part_naming::name_at;
+use crate::part_naming::is_part_name;
 use cert_rules::Bounds;
 use net_model::Network;
 use text_words::{count_words, demand, is_literal, number, word_at};
@@ -31,7 +31,7 @@ pub fn part_line(net: &Network, k: usize, line: &[u8]) -> Result<Bounds, CertKin
 fn names_next(net: &Network, k: usize, name: &[u8]) -> bool
     ensures { result ≡ names_next net.now k name.now }
 {
-    k < net.parts().len() && name_at(net, k) == name
+    k < net.parts().len() && is_part_name(net, k, name)
 }
 
 // The number of a word, which has to lie between two ends.

@@ -6,15 +6,17 @@ ghost use Rattle.bench_core.specs.Calls.{SinkCall, shelf_call};
 ghost use Rattle.bench_core.specs.HowItEnds.{EndsUnmade, ReadsAs, Makes, HasEndingCause, HasStepCause};
 ghost use Rattle.bench_core.specs.FilesRead.{file_read, network_in, network_read, over_two_files};
 ghost use Rattle.bench_core.specs.CheckAnswer.{certificate_in, acceptance};
+ghost use Rattle.net_model.specs.Smooth.{IsSmooth};
 ghost use Rattle.net_model.specs.Wires.{parts_of};
 
 use super::cert_kind::CertError;
 use super::cert_reader::read_certificate;
 use super::endings::Ending;
 use super::fault_refusals::refuse_network;
-use super::part_naming::part_name;
+use super::part_naming::refuse_part;
 use super::refusals::{refuse, unread};
-use cert_rules::{Certificate, rejected_part};
+use cert_checker::{Rejected, check};
+use cert_rules::Certificate;
 use fx_io::{ReadAllFault, Shelf, read_all};
 use net_model::Network;
 use net_text::{NetError, read_net};
@@ -100,7 +102,7 @@ pub(crate) fn certificate_of_text(
 }
 
 /// Tests that no part rejects the certificate.
-#[tactic(auto, using(crate::proofs::StepLaws::stops_at_refusal, crate::proofs::RejectedPlaces::rejected_below), unfolding(crate::specs::CheckAnswer::acceptance))]
+#[tactic(auto, using(crate::proofs::StepLaws::stops_at_refusal, cert_rules::proofs::AcceptanceLaws::none_rejected_from_accepts), unfolding(crate::specs::CheckAnswer::acceptance))]
 pub(crate) fn accept(
     alloc: Global,
     network: &Network,
@@ -109,10 +111,19 @@ pub(crate) fn accept(
     requires { length certificate.now ≡ length (parts_of network.now.wires) }
     ensures { Makes (λ _. tt) (acceptance network.now certificate.now) result }
 {
-    match rejected_part(network, certificate.bounds()) {
-        None => Ok(()),
-        Some(part) => Err(refuse(alloc, 6, b"not accepted: ", part_name(network, part))),
+    is_smooth(network);
+    match check(network, certificate) {
+        Ok(_) => Ok(()),
+        Err(Rejected { part }) => Err(refuse_part(alloc, network, part)),
     }
+}
+
+// Does nothing: its clause is that certificates are for the network, since none that is valid has a remainder.
+#[tactic(auto, using(cert_rules::proofs::AcceptanceLaws::all_are_smooth))]
+fn is_smooth(network: &Network)
+    ensures { IsSmooth network.now.wires }
+{
+    let _ = network.wires();
 }
 
 // All bytes of a file, which has at most so many.

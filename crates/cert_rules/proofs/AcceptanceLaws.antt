@@ -3,7 +3,7 @@ use Rattle.std.specs.Prelude.{◌≡◌, ℕ, zero, suc, ◌+◌, ◌<◌, ◌�
 use Rattle.std.proofs.Common.{refl, ap, ◌∙◌, arith, inl, inr}
 use Rattle.std.proofs.lemmas.Bool.{cases_eq, false≢true}
 use Rattle.net_model.specs.declared.wires.Item.{Item}
-use Rattle.net_model.specs.declared.wires.Item.TheVariants.{Input, Const, Block as OfBlock}
+use Rattle.net_model.specs.declared.wires.Item.TheVariants.{Input, Const, Delay, Block as OfBlock}
 use Rattle.net_model.specs.Wires.{NetData, wire_at, parts_of}
 use Rattle.net_model.specs.Validity.{IsValid}
 use Rattle.net_model.specs.Smooth.{is_smooth, IsSmooth}
@@ -80,6 +80,7 @@ accepts_exactly net entries smooth complete = (accepts_from_none_rejected net en
 smooth_item : (net : NetData) (i : ℕ) (item : Item) → IsValid net → i < length net.wires → (wire_at net.wires i).item ≡ item → IsTrue (is_smooth item)
 smooth_item net i (Input lo hi) valid h e = refl
 smooth_item net i (Const value) valid h e = refl
+smooth_item net i (Delay init source) valid h e = refl
 smooth_item net i (OfBlock b) valid h e = smooth_if_built b (block-valid net i b valid h e).built
 
 pub all_are_smooth : AllAreSmooth

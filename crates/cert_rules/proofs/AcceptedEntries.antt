@@ -43,11 +43,13 @@ given_of (Some b) entry h =
       inside = record { low = int_le-true entry.lo b.lo range.0; high = int_le-true b.hi entry.hi range.1; error = int_le-true b.err entry.err rest.1 };
     }
 
--- the entry of a part: its rule gives bounds, these lie between the part's ends and within the entry, and a value from which
+-- the entry of a part: it lies between the part's ends, its rule gives bounds, these lie there too and within the entry, and a value from which
 -- the part starts is within the entry
 pub record EntryHolds (net : NetData) (entries : List Bounds) (part : Part) : Type 0 where
   pub bounds : Bounds
   pub rules : rule_of net part (entry_of net entries) ≡ Some bounds
+  pub entry_least : least_of_part net part ≤ℤ (entry_of net entries part).lo
+  pub entry_greatest : (entry_of net entries part).hi ≤ℤ greatest_of_part net part
   pub least : least_of_part net part ≤ℤ bounds.lo
   pub greatest : bounds.hi ≤ℤ greatest_of_part net part
   pub inside : LiesInside bounds (entry_of net entries part)
@@ -68,6 +70,8 @@ entry_of_both net entries part allowed inductive =
     record {
       bounds = given.bounds;
       rules = given.is;
+      entry_least = (allowed_entry net part entry allowed).between.low;
+      entry_greatest = (allowed_entry net part entry allowed).between.high;
       least = ends.low;
       greatest = ends.high;
       inside = given.inside;

@@ -1,24 +1,18 @@
 -- How the part of a number among those that a rule reads is found, one part at a time.
 use Rattle.std.proofs.Common.{◌≡◌, ℕ, suc, ◌+◌, ◌-◌, ◌<◌, ◌≤◌, Bool, true, false, ◌&&◌, ◌||◌, ◌==◌, cond, List, [], ◌∷◌, map, length, slice_get, refl, sym, ap, ap₂, ◌∙◌, subst, arith, Option, Some, None, Fits, w32, Fits-le}
 use Rattle.std.specs.List.{list_any}
-use Rattle.net_model.specs.declared.wires.WireNo.{WireNo}
-use Rattle.net_model.specs.BlockForms.{form_of}
 use Rattle.net_model.specs.declared.wires.PartNo.{PartNo}
-use Rattle.net_model.specs.declared.wires.Kind.{Kind}
-use Rattle.net_model.specs.declared.wires.Block.{Block}
 use Rattle.net_model.specs.declared.wires.Item.{Item}
-use Rattle.net_model.specs.declared.wires.Role.TheVariants.{Value}
 use Rattle.net_model.specs.declared.wires.Part.{Part}
 use Rattle.net_model.specs.declared.wires.Wire.{Wire}
-use Rattle.net_model.specs.Wires.{NetData, wire_at, parts_of, same_role}
+use Rattle.net_model.specs.Wires.{NetData, wire_at, is_part, parts_of}
 use Rattle.net_model.specs.Validity.{IsValid}
-use Rattle.part_rules.specs.PartRules.{read_now}
-use Rattle.cert_rules.specs.Rules.{block_rule, item_rule, part_rule}
+use Rattle.part_rules.specs.PartRules.{Reading}
+use Rattle.cert_rules.specs.Rules.{item_rule, part_rule}
 use Rattle.cert_rules.specs.Acceptance.{part_at}
-use Rattle.cert_rules.specs.Arguments.{is_read_ever, passing, reads_at}
-use Rattle.cert_rules.specs.GivenBounds.{value_part}
-use Rattle.cert_rules.proofs.BlockRules.{block_reads}
-use Rattle.cert_rules.proofs.Findings.{count_fits}
+use Rattle.cert_rules.specs.Arguments.{is_read_ever, passing, reads_at, reads_part}
+use Rattle.cert_rules.specs.GivenBounds.{parts_in}
+use Rattle.cert_rules.proofs.EntryFacts.{count_fits}
 
 -- ---- one step of the search
 
@@ -77,40 +71,17 @@ number_fits net k parts valid e h =
 
 -- ---- the test of one part
 
-pub reads_at-is : (net : NetData) (p k : ℕ) (part other : Part) (item : Item) (r : Bool) → part ≡ part_at net p → item ≡ (wire_at net.wires part.wire.0).item → other ≡ part_at net k → ((net : NetData) (kind : Kind) → r ≡ is_read_ever (item_rule net kind item part.role).reads other) → r ≡ reads_at net p k
+-- a part is among those that are read
+among : (reads : List (Reading Part)) (other : Part) → list_any (is_part other.wire.0 other.role) (parts_in reads) ≡ is_read_ever reads other
+among [] other = refl
+among (reading ∷ reads) other = ap (λ t. reads_part other reading || t) (among reads other)
+
+pub reads_at-is : (net : NetData) (p k : ℕ) (part other : Part) (item : Item) (reads parts : List Part) (r : Bool) → part ≡ part_at net p → item ≡ (wire_at net.wires part.wire.0).item → other ≡ part_at net k → ((net : NetData) → reads ≡ parts_in (item_rule net part.wire.0 item part.role).reads) → parts ≡ reads → r ≡ list_any (is_part other.wire.0 other.role) parts → r ≡ reads_at net p k
 unfolding reads_at
-reads_at-is net p k part other item r e f g is =
-    is net (wire_at net.wires part.wire.0).kind
-    ∙ ap (λ (t : Item). is_read_ever (item_rule net (wire_at net.wires part.wire.0).kind t part.role).reads other) f
+reads_at-is net p k part other item reads parts r e f g is same found =
+    found
+    ∙ ap (list_any (is_part other.wire.0 other.role)) (same ∙ is net)
+    ∙ among (item_rule net part.wire.0 item part.role).reads other
+    ∙ ap (λ (t : Item). is_read_ever (item_rule net part.wire.0 t part.role).reads other) f
     ∙ ap (λ (t : Part). is_read_ever (part_rule net t).reads other) e
     ∙ ap (is_read_ever (part_rule net (part_at net p)).reads) g
-
--- ---- the wires that a block reads
-
-any_read : (wires : List WireNo) (other : Part) (same : Bool) → same ≡ same_role Value other.role → is_read_ever (map (λ w. read_now (value_part w.0)) wires) other ≡ (same && list_any (λ w. w.0 == other.wire.0) wires)
-any_read [] other same e = sym (and_false same)
-  where
-    and_false : (a : Bool) → (a && false) ≡ false
-    and_false true = refl
-    and_false false = refl
-any_read (w ∷ wires) other same e =
-    ap₂ (λ t r. ((w.0 == other.wire.0) && t) || r) (sym e) (any_read wires other same e) ∙ both (w.0 == other.wire.0) same (list_any (λ w. w.0 == other.wire.0) wires)
-  where
-    both : (a s r : Bool) → ((a && s) || (s && r)) ≡ (s && (a || r))
-    both true true r = refl
-    both true false r = refl
-    both false true r = refl
-    both false false r = refl
-
-block_read : (net : NetData) (kind : Kind) (b : Block) (other : Part) (wires : List WireNo) (same among : Bool) → same ≡ same_role Value other.role → wires ≡ (form_of b).wires → among ≡ list_any (λ w. w.0 == other.wire.0) wires → (same && among) ≡ is_read_ever (block_rule net kind b Value).reads other
-block_read net kind b other wires same among e f g =
-    ap (λ t. same && t) (g ∙ ap (list_any (λ w. w.0 == other.wire.0)) f) ∙ sym (any_read (form_of b).wires other same e) ∙ sym (ap (λ r. is_read_ever r other) (block_reads net kind b))
-
--- the same where the role is found to be that of a value
-pub block_among : (net : NetData) (kind : Kind) (b : Block) (other : Part) (wires : List WireNo) (same among : Bool) → same ≡ same_role Value other.role → same ≡ true → wires ≡ (form_of b).wires → among ≡ list_any (λ w. w.0 == other.wire.0) wires → among ≡ is_read_ever (block_rule net kind b Value).reads other
-block_among net kind b other wires same among e is f g =
-    ap (λ t. t && among) (sym is) ∙ block_read net kind b other wires same among e f g
-
-pub block_unread : (net : NetData) (kind : Kind) (b : Block) (other : Part) (same : Bool) → same ≡ same_role Value other.role → same ≡ false → same ≡ is_read_ever (block_rule net kind b Value).reads other
-block_unread net kind b other same e differs =
-    differs ∙ sym (ap (λ t. t && list_any (λ w. w.0 == other.wire.0) (form_of b).wires) differs) ∙ sym (any_read (form_of b).wires other same e) ∙ sym (ap (λ r. is_read_ever r other) (block_reads net kind b))

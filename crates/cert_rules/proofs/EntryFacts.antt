@@ -1,5 +1,5 @@
 -- What the tests of an entry say, and how small allowed entries of values are.
-use Rattle.std.proofs.Common.{◌≡◌, ℕ, ◌<◌, ◌≤◌, ◌^◌, Bool, true, ◌&&◌, length, ℤ, pos, negsuc, ◌≤ℤ◌, int_le, int_lt, sym, ap, ◌∙◌}
+use Rattle.std.proofs.Common.{◌≡◌, ℕ, zero, suc, ◌<◌, ◌≤◌, ◌^◌, Bool, true, ◌&&◌, length, List, [], ◌∷◌, get_or, arith, refl, subst, ℤ, pos, negsuc, ◌≤ℤ◌, int_le, int_lt, sym, ap, ◌∙◌, Fits, w32, Fits-le, Fits-lit}
 use Rattle.std.proofs.lemmas.Bool.{and_parts}
 use Rattle.fx_fraction.proofs.WholeNumbers.{int_le-true, int_lt-true, int_le_trans}
 use Rattle.fx_core.specs.declared.word_type.Ty.{Ty}
@@ -7,18 +7,21 @@ use Rattle.fx_core.specs.declared.word_type.Ty.TheVariants.{U8, S8, U16, S16, U3
 use Rattle.fx_core.specs.Types.{least_of, greatest_of}
 use Rattle.net_model.specs.declared.wires.Kind.{Kind}
 use Rattle.net_model.specs.declared.wires.Kind.TheVariants.{Num, Truth}
+use Rattle.net_model.specs.declared.wires.Role.{Role}
+use Rattle.net_model.specs.declared.wires.Role.TheVariants.{Y, X1, X2, W, Value}
 use Rattle.net_model.specs.declared.wires.Part.{Part}
-use Rattle.net_model.specs.Wires.{NetData, wire_at, kind_least, kind_greatest, point_of, parts_of}
+use Rattle.net_model.specs.Wires.{NetData, wire_at, kind_least, kind_greatest, no_part, point_of, parts_of}
 use Rattle.net_model.specs.Validity.{IsValid}
 use Rattle.net_model.proofs.ValidityFacts.{point_of-valid}
-use Rattle.net_model.proofs.PartPlaces.{part_there}
+use Rattle.net_model.proofs.PartPlaces.{few_parts, part_there}
 use Rattle.part_rules.specs.declared.bounds.Bounds.{Bounds}
 use Rattle.part_rules.specs.Entries.{IsSmall}
 use Rattle.part_rules.specs.PartRules.{IsProper}
 use Rattle.part_rules.specs.Within.{no_bounds}
-use Rattle.cert_rules.specs.Rules.{is_allowed, is_between_ends, least_of_part, greatest_of_part, cap_of_role}
-use Rattle.cert_rules.specs.Acceptance.{is_allowed_entry, part_at}
-use Rattle.cert_rules.specs.GivenBounds.{value_part}
+use Rattle.cert_rules.specs.Rules.{is_allowed, is_between_ends, kind_of_part, least_by_role, greatest_by_role, least_of_part, greatest_of_part, cap_of_role}
+use Rattle.cert_rules.specs.Acceptance.{AreAllowed, is_allowed_entry, part_at}
+use Rattle.cert_rules.specs.GivenBounds.{IsSized}
+use Rattle.cert_rules.specs.Soundness.{AreAllowedFor}
 
 -- ---- the ends of kinds are small
 
@@ -85,17 +88,25 @@ allowed_entry net part b h =
       proper = record { ordered = int_le-true b.lo b.hi t.1; positive = int_le-true (pos 0) b.err t.2 };
     }
 
--- allowed bounds of a value whose range isn't empty and whose error isn't negative are small
-pub small_value : (net : NetData) (wire : ℕ) (b : Bounds) → AreBetween net (value_part wire) b → IsProper b → IsSmall b
-small_value net wire b between proper =
-    let kind = (wire_at net.wires wire).kind in
-    record {
-      low = int_le_trans _ _ _ (kind_least-low kind) between.low;
-      ordered = proper.ordered;
-      high = int_le_trans _ _ _ between.high (kind_greatest-high kind);
-      positive = proper.positive;
-      near = int_lt-true b.err (pos (2 ^ 40)) between.near;
-    }
+small_by : (kind : Kind) (b : Bounds) → kind_least kind ≤ℤ b.lo → b.hi ≤ℤ kind_greatest kind → int_lt b.err (pos (2 ^ 40)) ≡ true → IsProper b → IsSmall b
+small_by kind b low high near proper = record {
+  low = int_le_trans _ _ _ (kind_least-low kind) low;
+  ordered = proper.ordered;
+  high = int_le_trans _ _ _ high (kind_greatest-high kind);
+  positive = proper.positive;
+  near = int_lt-true b.err (pos (2 ^ 40)) near;
+}
+
+-- allowed bounds of a part whose range isn't empty and whose error isn't negative are small enough for its role
+sized_by : (role : Role) (kind : Kind) (b : Bounds) → least_by_role kind role ≤ℤ b.lo → b.hi ≤ℤ greatest_by_role kind role → int_lt b.err (cap_of_role role) ≡ true → IsProper b → IsSized role b
+sized_by Y kind b low high near proper = record { low = low; ordered = proper.ordered; high = high; positive = proper.positive; near = int_lt-true b.err (pos (2 ^ 56)) near }
+sized_by Value kind b low high near proper = small_by kind b low high near proper
+sized_by X1 kind b low high near proper = small_by kind b low high near proper
+sized_by X2 kind b low high near proper = small_by kind b low high near proper
+sized_by W kind b low high near proper = small_by kind b low high near proper
+
+pub sized_entry : (net : NetData) (part : Part) (b : Bounds) → AreBetween net part b → IsProper b → IsSized part.role b
+sized_entry net part b between proper = sized_by part.role (kind_of_part net part) b between.low between.high between.near proper
 
 -- no bounds are small
 pub small_none : IsSmall no_bounds
@@ -103,11 +114,31 @@ small_none = record { low = record { le = tt }; ordered = record { le = tt }; hi
 
 -- ---- numbers of parts and points
 
+-- what is read of a list where it has something
+pub any_default : (parts : List Part) (k : ℕ) (d e : Part) → k < length parts → get_or parts k d ≡ get_or parts k e
+any_default [] k d e h = absurd (omega arith)
+any_default (part ∷ parts) zero d e h = refl
+any_default (part ∷ parts) (suc k) d e h = any_default parts k d e (omega arith)
+
 -- the part of a number stands on a wire
 pub part_at-wire : (net : NetData) (k : ℕ) → k < length (parts_of net.wires) → (part_at net k).wire.0 < length net.wires
 part_at-wire net k h = (part_there net k h).wire
+
+-- the same of a part that is read from the list, whatever is read where there is none
+pub part-wire : (net : NetData) (k : ℕ) (none : Part) → k < length (parts_of net.wires) → (get_or (parts_of net.wires) k none).wire.0 < length net.wires
+part-wire net k none h = subst (λ (part : Part). part.wire.0 < length net.wires) (any_default (parts_of net.wires) k no_part none h) (part_at-wire net k h)
 
 -- a point that was read
 pub point-valid : (net : NetData) (i : ℕ) (kind : Kind) (point : ℕ) (ty : Ty) → IsValid net → i < length net.wires → kind ≡ (wire_at net.wires i).kind → kind ≡ Num ty point → point ≤ 15
 point-valid net i kind point ty valid h is case =
     rw (ap point_of (sym case ∙ is)) (point_of-valid net i valid h)
+
+-- ---- all parts
+
+-- the number of parts is a word
+pub count_fits : (net : NetData) → IsValid net → Fits w32 (length (parts_of net.wires))
+count_fits net valid = Fits-le (few_parts net valid) (Fits-lit tt)
+
+-- where each entry is allowed those that a rule reads are
+pub allowed_for : (net : NetData) (entries : List Bounds) (p : ℕ) → AreAllowed net entries → AreAllowedFor net entries p
+allowed_for net entries p allowed k h read = allowed k h

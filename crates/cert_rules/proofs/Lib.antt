@@ -1,9 +1,12 @@
 pub mod Examples
 pub mod Readings
 pub mod EntryFacts
-pub mod Findings
 pub mod AcceptanceLaws
+pub mod PartValues
+pub mod FilterBlocks
 pub mod BlockRules
+pub mod BlockParts
+pub mod GivenFacts
 pub mod ReadParts
 pub mod RuleFacts
 pub mod RuleSoundness

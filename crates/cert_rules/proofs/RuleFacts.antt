@@ -1,19 +1,19 @@
 -- What the functions of the rules owe: that what is read has entries, that these are small, and that the computed bounds are
 -- the definition's.
-use Rattle.std.proofs.Common.{◌≡◌, ℕ, zero, suc, ◌<◌, ◌≤◌, Bool, true, false, ◌&&◌, cond, List, [], ◌∷◌, map, length, ℤ, pos, ◌≤ℤ◌, slice_get, int_le, int_lt, refl, sym, ap, ap₂, ◌∙◌, subst, arith, true≢false, FitsSigned, to_z, of_z, w64, ltb-true, ltb-false}
+use Rattle.std.proofs.Common.{◌≡◌, ℕ, zero, suc, ◌<◌, ◌≤◌, Bool, true, false, ◌&&◌, cond, List, [], ◌∷◌, map, length, ℤ, pos, ◌≤ℤ◌, ◌<ℤ◌, inl, inr, ◌⊎◌, slice_get, int_le, int_lt, refl, sym, ap, ap₂, ◌∙◌, subst, arith, true≢false, FitsSigned, to_z, of_z, w64, ltb-true, ltb-false}
 use Rattle.std.specs.Prelude.{Option, Some, None, IfSome, IsTrue, option_map}
 use Rattle.std.proofs.lemmas.Bool.{and_from}
 use Rattle.std.proofs.lemmas.Int.{ints, to_z-of_z}
-use Rattle.fx_fraction.proofs.WholeNumbers.{int_le_trans, int_le-false}
+use Rattle.fx_fraction.proofs.WholeNumbers.{int_le-false, int_lt-false}
 use Rattle.net_model.specs.declared.wires.PartNo.{PartNo}
 use Rattle.net_model.specs.declared.wires.Kind.{Kind}
 use Rattle.net_model.specs.declared.wires.Block.{Block}
 use Rattle.net_model.specs.declared.wires.Item.{Item}
-use Rattle.net_model.specs.declared.wires.Item.TheVariants.{Input, Const, Block as OfBlock}
+use Rattle.net_model.specs.declared.wires.Item.TheVariants.{Input, Const, Delay, Block as OfBlock}
 use Rattle.net_model.specs.declared.wires.Role.{Role}
-use Rattle.net_model.specs.declared.wires.Role.TheVariants.{Value}
+use Rattle.net_model.specs.declared.wires.Role.TheVariants.{Y, X1, X2, W, Value}
 use Rattle.net_model.specs.declared.wires.Part.{Part}
-use Rattle.net_model.specs.Wires.{NetData, wire_at, argument_of, part_number, parts_of, place_in}
+use Rattle.net_model.specs.Wires.{NetData, wire_at, argument_of, block_roles, has_role, no_part, part_number, parts_of, place_in, same_role}
 use Rattle.net_model.specs.declared.wires.WireNo.{WireNo}
 use Rattle.net_model.specs.declared.block_forms.Form.{Form}
 use Rattle.net_model.specs.BlockForms.{form_of}
@@ -22,19 +22,20 @@ use Rattle.net_model.proofs.ValidityFacts.{argument_of-valid}
 use Rattle.net_model.proofs.PartPlaces.{has_place, has_role-value, part_of}
 use Rattle.part_rules.specs.declared.bounds.Bounds.{Bounds}
 use Rattle.part_rules.specs.Entries.{IsSmall, is_small, if_small}
+use Rattle.efx_rules.specs.StateEntries.{IsState, is_state, if_state}
 use Rattle.part_rules.specs.Within.{no_bounds}
 use Rattle.part_rules.specs.PartRules.{PartRule, Reading, IsProper, read_now, bounds_at, bounds_read, given_by}
 use Rattle.part_rules.proofs.RuleLaws.{gives_proper}
 use Rattle.std.proofs.lemmas.List.{length-map}
 use Rattle.cert_rules.specs.declared.lookups.Given.{Given}
-use Rattle.cert_rules.specs.Rules.{allowed_of, block_rule, cap_of_role, greatest_of_part, is_allowed, item_rule, least_of_part, part_rule, rule_of}
+use Rattle.cert_rules.specs.Rules.{allowed_of, block_rule, cap_of_role, greatest_of_part, is_allowed, item_rule, kept_reading, kept_rule_of, least_of_part, part_rule, rule_of}
 use Rattle.cert_rules.specs.Certificates.{IsPart, entry_of}
 use Rattle.cert_rules.specs.Acceptance.{entry_at, is_allowed_at, is_allowed_entry, part_at}
 use Rattle.cert_rules.specs.Arguments.{is_read_ever, reads_at, reads_of}
 use Rattle.cert_rules.specs.Soundness.{AreAllowedFor}
-use Rattle.cert_rules.specs.GivenBounds.{AreAllowedReads, AreGiven, entry_if, reading_at, value_part}
-use Rattle.cert_rules.proofs.BlockRules.{FitReads, block_meaning, block_reads, blocks_keep}
-use Rattle.cert_rules.proofs.EntryFacts.{allowed_entry, are_between, kind_greatest-high, kind_least-low, small_none, small_value}
+use Rattle.cert_rules.specs.GivenBounds.{AreAllowedReads, AreGiven, AreSized, IsSized, entry_if, if_sized, parts_in, reading_at}
+use Rattle.cert_rules.proofs.BlockRules.{FitReads, block_meaning, blocks_keep}
+use Rattle.cert_rules.proofs.EntryFacts.{allowed_entry, are_between, sized_entry, small_none}
 use Rattle.cert_rules.proofs.Readings.{given_at, given_past, has_number, numbered, read_ever}
 use Rattle.cert_rules.proofs.ReadParts.{is_orderly}
 
@@ -51,89 +52,81 @@ allowed_reads net entries p valid h allowed q l =
     let here = subst (λ part. IsTrue (is_allowed_entry net part (entry_at entries number.number))) number.there (allowed number.number number.within read) in
     (there, rw (number.entry entries) here)
 
--- a part that is read is a value, since no part is anything else
-value_of : (part : Part) → value_part part.wire.0 ≡ part
-value_of part = ap (part_of part.wire.0) (by_role part.role)
-  where
-    by_role : (r : Role) → Value ≡ r
-    by_role Value = refl
+-- the same of a part that was read by its number
+pub part_reads : (net : NetData) (entries : List Bounds) (p : ℕ) (part : Part) → IsValid net → p < length (parts_of net.wires) → AreAllowedFor net entries p → part ≡ part_at net p → AreAllowedReads net (part_rule net part).reads entries
+part_reads net entries p part valid h allowed is =
+    subst (λ t. AreAllowedReads net (part_rule net t).reads entries) (sym is) (allowed_reads net entries p valid h allowed)
 
-pub value_reads : (net : NetData) (entries : List Bounds) (p : ℕ) (read : Part) → IsValid net → p < length (parts_of net.wires) → AreAllowedFor net entries p → read ≡ part_at net p → AreAllowedReads net (part_rule net (value_part read.wire.0)).reads entries
-value_reads net entries p read valid h allowed is =
-    subst (λ t. AreAllowedReads net (part_rule net t).reads entries) (sym is ∙ sym (value_of read)) (allowed_reads net entries p valid h allowed)
-
--- a wire has an entry of its value
-pub value_number : (net : NetData) (wire : ℕ) → wire < length net.wires → part_number net.wires wire Value ≡ Some (place_in wire Value (parts_of net.wires))
-unfolding part_number
-value_number net wire h = ap (λ t. cond t (Some (place_in wire Value (parts_of net.wires))) None) (has_role-value (wire_at net.wires wire).item)
-
+-- a part of the network has an entry
 some_number : (a b : PartNo) → ◌≡◌ {A = Option PartNo} (Some a) (Some b) → a ≡ b
 some_number a b h = cc
 
-pub number_is : (net : NetData) (wire : ℕ) (found : Option PartNo) (part : PartNo) → wire < length net.wires → found ≡ option_map (λ n. record { 0 = n }) (part_number net.wires wire Value) → found ≡ Some part → (part.0 ≡ place_in wire Value (parts_of net.wires)) × (part.0 < length (parts_of net.wires))
-number_is net wire found part h e is =
-    let same : part.0 ≡ place_in wire Value (parts_of net.wires) = ap (λ n. n.0) (some_number part _ (sym is ∙ e ∙ ap (option_map (λ (n : ℕ). record { 0 = n })) (value_number net wire h))) in
-    (same, rw same ((has_place net wire Value h (has_role-value (wire_at net.wires wire).item)).below))
+its_number : (net : NetData) (part : Part) → IsPart net part → part_number net.wires part.wire.0 part.role ≡ Some (place_in part.wire.0 part.role (parts_of net.wires))
+unfolding part_number
+its_number net part is = ap (λ t. cond t (Some (place_in part.wire.0 part.role (parts_of net.wires))) None) is.role
 
-pub number_there : (net : NetData) (wire : ℕ) (found : Option PartNo) → wire < length net.wires → found ≡ option_map (λ n. record { 0 = n }) (part_number net.wires wire Value) → found ≡ None → ⊥
-number_there net wire found h e is = no_number _ (sym is ∙ e ∙ ap (option_map (λ (n : ℕ). record { 0 = n })) (value_number net wire h))
+pub number_is : (net : NetData) (part : Part) (found : Option PartNo) (number : PartNo) → IsPart net part → found ≡ option_map (λ n. record { 0 = n }) (part_number net.wires part.wire.0 part.role) → found ≡ Some number → (number.0 ≡ place_in part.wire.0 part.role (parts_of net.wires)) × (number.0 < length (parts_of net.wires))
+number_is net part found number h e is =
+    let same : number.0 ≡ place_in part.wire.0 part.role (parts_of net.wires) = ap (λ n. n.0) (some_number number _ (sym is ∙ e ∙ ap (option_map (λ (n : ℕ). record { 0 = n })) (its_number net part h))) in
+    (same, rw same ((has_place net part.wire.0 part.role h.wire h.role).below))
+
+pub number_there : (net : NetData) (part : Part) (found : Option PartNo) → IsPart net part → found ≡ option_map (λ n. record { 0 = n }) (part_number net.wires part.wire.0 part.role) → found ≡ None → ⊥
+number_there net part found h e is = no_number _ (sym is ∙ e ∙ ap (option_map (λ (n : ℕ). record { 0 = n })) (its_number net part h))
   where
     no_number : (n : PartNo) → ◌≡◌ {A = Option PartNo} None (Some n) → ⊥
     no_number n h = cc
 
-pub entry_is : (net : NetData) (entries : List Bounds) (wire : ℕ) (k : ℕ) (b : Bounds) → k ≡ place_in wire Value (parts_of net.wires) → b ≡ entry_at entries k → b ≡ entry_of net entries (value_part wire)
+pub entry_is : (net : NetData) (entries : List Bounds) (part : Part) (k : ℕ) (b : Bounds) → k ≡ place_in part.wire.0 part.role (parts_of net.wires) → b ≡ entry_at entries k → b ≡ entry_of net entries part
 unfolding entry_of
-entry_is net entries wire k b same e = e ∙ ap (entry_at entries) same
+entry_is net entries part k b same e = e ∙ ap (entry_at entries) same
 
 -- ---- the bounds that a rule is given
 
--- a wire of a list by its number, and none behind the last
-record IsNumbered (wires : List WireNo) (q : ℕ) (wire : WireNo) : Type 0 where
-  within : q < length wires
-  is : reading_at (map (λ w. read_now (value_part w.0)) wires) q ≡ read_now (value_part wire.0)
+-- a part of a list by its number, and none behind the last
+record IsNumbered (reads : List (Reading Part)) (q : ℕ) (part : Part) : Type 0 where
+  within : q < length reads
+  is : (reading_at reads q).part ≡ part
 
-numbered_wire : (wires : List WireNo) (q : ℕ) (wire : WireNo) → slice_get wires q ≡ Some wire → IsNumbered wires q wire
-numbered_wire [] q wire h = absurd (cc)
-numbered_wire (w ∷ wires) zero wire h = let same : w ≡ wire = cc in record { within = omega arith; is = ap (λ t. read_now (value_part t.0)) same }
-numbered_wire (w ∷ wires) (suc q) wire h = let later = numbered_wire wires q wire h in record { within = omega (arith, later.within); is = later.is }
+numbered_part : (reads : List (Reading Part)) (q : ℕ) (part : Part) → slice_get (parts_in reads) q ≡ Some part → IsNumbered reads q part
+numbered_part [] q part h = absurd (cc)
+numbered_part (r ∷ reads) zero part h = let same : r.part ≡ part = cc in record { within = omega arith; is = same }
+numbered_part (r ∷ reads) (suc q) part h = let later = numbered_part reads q part h in record { within = omega (arith, later.within); is = later.is }
 
-no_wire_at : (wires : List WireNo) (q : ℕ) → slice_get wires q ≡ None → length wires ≤ q
-no_wire_at [] q h = omega arith
-no_wire_at (w ∷ wires) zero h = absurd (cc)
-no_wire_at (w ∷ wires) (suc q) h = let later = no_wire_at wires q h in omega (arith, later)
+no_part_at : (reads : List (Reading Part)) (q : ℕ) → slice_get (parts_in reads) q ≡ None → length reads ≤ q
+no_part_at [] q h = omega arith
+no_part_at (r ∷ reads) zero h = absurd (cc)
+no_part_at (r ∷ reads) (suc q) h = let later = no_part_at reads q h in omega (arith, later)
 
-as_many : (net : NetData) (kind : Kind) (b : Block) → length (block_rule net kind b Value).reads ≡ length (form_of b).wires
-as_many net kind b = ap length (block_reads net kind b) ∙ length-map (form_of b).wires (λ (w : WireNo). read_now (value_part w.0))
+past_last : (reads : List (Reading Part)) (q : ℕ) → length reads ≤ q → reading_at reads q ≡ read_now no_part
+past_last [] q h = refl
+past_last (r ∷ reads) zero h = absurd (omega arith)
+past_last (r ∷ reads) (suc q) h = past_last reads q (omega arith)
 
-wire_read : (net : NetData) (kind : Kind) (b : Block) (q : ℕ) (wire : WireNo) → slice_get (form_of b).wires q ≡ Some wire → (q < length (block_rule net kind b Value).reads) × (reading_at (block_rule net kind b Value).reads q ≡ read_now (value_part wire.0))
-wire_read net kind b q wire h =
-    let n = numbered_wire (form_of b).wires q wire h in
-    (omega (arith, n.within, as_many net kind b), ap (λ r. reading_at r q) (block_reads net kind b) ∙ n.is)
+-- the parts that were read
+pub part_from : (net : NetData) (part : Part) (item : Item) (reads parts : List Part) (q : ℕ) (found : Option Part) → item ≡ (wire_at net.wires part.wire.0).item → ((net : NetData) → reads ≡ parts_in (item_rule net part.wire.0 item part.role).reads) → parts ≡ reads → found ≡ slice_get parts q → found ≡ slice_get (parts_in (part_rule net part).reads) q
+part_from net part item reads parts q found is e f g =
+    g ∙ ap (λ l. slice_get l q) (f ∙ e net) ∙ ap (λ t. slice_get (parts_in (item_rule net part.wire.0 t part.role).reads) q) is
 
--- the wires that were read
-pub wire_from : (b : Block) (form : Form) (wires : List WireNo) (q : ℕ) (found : Option WireNo) → form ≡ form_of b → wires ≡ form.wires → found ≡ slice_get wires q → found ≡ slice_get (form_of b).wires q
-wire_from b form wires q found e f g = g ∙ ap (λ l. slice_get l q) (f ∙ ap (λ t. t.wires) e)
+-- a part that a rule reads is one of the network
+pub read_there : (net : NetData) (entries : List Bounds) (reads : List (Reading Part)) (q : ℕ) (found : Option Part) → AreAllowedReads net reads entries → found ≡ slice_get (parts_in reads) q → IfSome found (λ p. IsPart net p)
+read_there net entries reads q None allowed e = tt
+read_there net entries reads q (Some part) allowed e =
+    let r = numbered_part reads q part (sym e) in
+    subst (IsPart net) r.is (allowed q r.within).0
 
--- a wire that a block reads is one of the network
-pub wire_there : (net : NetData) (kind : Kind) (b : Block) (entries : List Bounds) (q : ℕ) (found : Option WireNo) → AreAllowedReads net (block_rule net kind b Value).reads entries → found ≡ slice_get (form_of b).wires q → IfSome found (λ w. w.0 < length net.wires)
-wire_there net kind b entries q None allowed e = tt
-wire_there net kind b entries q (Some wire) allowed e =
-    let r = wire_read net kind b q wire (sym e) in
-    subst (λ (t : Reading Part). t.part.wire.0 < length net.wires) r.1 ((allowed q r.0).0.wire)
+pub given_is : (net : NetData) (entries : List Bounds) (reads : List (Reading Part)) (q : ℕ) (part : Option Part) (found : Bounds) → part ≡ slice_get (parts_in reads) q → found ≡ entry_if net entries part → found ≡ bounds_at (bounds_read reads (entry_of net entries)) q
+given_is net entries reads q None found e f = f ∙ sym (given_past reads (entry_of net entries) q (no_part_at reads q (sym e)))
+given_is net entries reads q (Some part) found e f =
+    let r = numbered_part reads q part (sym e) in
+    f ∙ sym (given_at reads (entry_of net entries) q r.within ∙ ap (entry_of net entries) r.is)
 
-pub given_is : (net : NetData) (kind : Kind) (b : Block) (entries : List Bounds) (q : ℕ) (wire : Option WireNo) (found : Bounds) → wire ≡ slice_get (form_of b).wires q → found ≡ entry_if net entries wire → found ≡ bounds_at (bounds_read (block_rule net kind b Value).reads (entry_of net entries)) q
-given_is net kind b entries q None found e f =
-    f ∙ sym (given_past (block_rule net kind b Value).reads (entry_of net entries) q (omega (arith, no_wire_at (form_of b).wires q (sym e), as_many net kind b)))
-given_is net kind b entries q (Some wire) found e f =
-    let r = wire_read net kind b q wire (sym e) in
-    f ∙ sym (given_at (block_rule net kind b Value).reads (entry_of net entries) q r.0 ∙ ap (λ t. entry_of net entries t.part) r.1)
-
-pub given_small : (net : NetData) (kind : Kind) (b : Block) (entries : List Bounds) (q : ℕ) (wire : Option WireNo) (found : Bounds) → AreAllowedReads net (block_rule net kind b Value).reads entries → wire ≡ slice_get (form_of b).wires q → found ≡ entry_if net entries wire → IsSmall found
-given_small net kind b entries q None found allowed e f = rw f small_none
-given_small net kind b entries q (Some wire) found allowed e f =
-    let r = wire_read net kind b q wire (sym e) in
-    let a = allowed_entry net (value_part wire.0) (entry_of net entries (value_part wire.0)) (subst (λ (t : Reading Part). IsTrue (is_allowed_entry net t.part (entry_of net entries t.part))) r.1 ((allowed q r.0).1)) in
-    rw f (small_value net wire.0 (entry_of net entries (value_part wire.0)) a.between a.proper)
+pub given_sized : (net : NetData) (entries : List Bounds) (reads : List (Reading Part)) (q : ℕ) (part : Option Part) (found : Bounds) → AreAllowedReads net reads entries → part ≡ slice_get (parts_in reads) q → found ≡ entry_if net entries part → IsSized (reading_at reads q).part.role found
+given_sized net entries reads q None found allowed e f = rw (past_last reads q (no_part_at reads q (sym e)), f) small_none
+given_sized net entries reads q (Some part) found allowed e f =
+    let r = numbered_part reads q part (sym e) in
+    let a = allowed_entry net (reading_at reads q).part (entry_of net entries (reading_at reads q).part) (allowed q r.within).1 in
+    let here : found ≡ entry_of net entries (reading_at reads q).part = f ∙ ap (entry_of net entries) (sym r.is) in
+    rw here (sized_entry net (reading_at reads q).part (entry_of net entries (reading_at reads q).part) a.between a.proper)
 
 pub argument_there : (net : NetData) (i : ℕ) (b : Block) (q wire : ℕ) → IsValid net → i < length net.wires → (wire_at net.wires i).item ≡ OfBlock b → wire ≡ argument_of b q → wire < length net.wires
 argument_there net i b q wire valid h is same = rw same (omega (arith, argument_of-valid net i b valid h is q))
@@ -144,54 +137,138 @@ int_le-test : (a b : ℤ) (t : Bool) → int_le a b ≡ t → a ≤ℤ b → int
 int_le-test a b true e h = e
 int_le-test a b false e h = absurd (omega (arith, ints, h, int_le-false a b e))
 
--- bounds that are allowed for a value are small, where their range isn't empty and their error isn't negative
-is_small-from : (net : NetData) (wire : ℕ) (b : Bounds) → IsProper b → is_allowed net (value_part wire) b ≡ true → is_small b ≡ true
+int_lt-test : (a b : ℤ) (t : Bool) → int_lt a b ≡ t → a <ℤ b → int_lt a b ≡ true
+int_lt-test a b true e h = e
+int_lt-test a b false e h = absurd (omega (arith, ints, h, int_lt-false a b e))
+
+-- bounds that are allowed for a part are small enough for its role, where their range isn't empty and their error isn't negative
+small_test : (b : Bounds) → IsSmall b → is_small b ≡ true
 unfolding is_small
-is_small-from net wire b proper h =
-    let kind = (wire_at net.wires wire).kind in
-    let t = are_between net (value_part wire) b h in
-    let low = int_le_trans _ _ _ (kind_least-low kind) t.low in
-    let high = int_le_trans _ _ _ t.high (kind_greatest-high kind) in
-    and_from _ _ (and_from _ _ (and_from _ _ (and_from _ _ (int_le-test _ _ _ refl low) (int_le-test _ _ _ refl proper.ordered)) (int_le-test _ _ _ refl high)) (int_le-test _ _ _ refl proper.positive)) t.near
+small_test b s =
+    and_from _ _ (and_from _ _ (and_from _ _ (and_from _ _ (int_le-test _ _ _ refl s.low) (int_le-test _ _ _ refl s.ordered)) (int_le-test _ _ _ refl s.high)) (int_le-test _ _ _ refl s.positive)) (int_lt-test _ _ _ refl s.near)
 
--- so leaving out the others leaves out nothing that is allowed
-leaves_out : (net : NetData) (wire : ℕ) (b : Bounds) (small is : Bool) → (is ≡ true → small ≡ true) → is_allowed net (value_part wire) b ≡ is → allowed_of net (value_part wire) (cond small (Some b) None) ≡ cond (is_allowed net (value_part wire) b) (Some b) None
-leaves_out net wire b true is h e = refl
-leaves_out net wire b false true h e = absurd (true≢false (sym (h refl)))
-leaves_out net wire b false false h e = rw e refl
+state_test : (b : Bounds) → IsState b → is_state b ≡ true
+unfolding is_state
+state_test b s =
+    and_from _ _ (and_from _ _ (and_from _ _ (and_from _ _ (int_le-test _ _ _ refl s.low) (int_le-test _ _ _ refl s.ordered)) (int_le-test _ _ _ refl s.high)) (int_le-test _ _ _ refl s.positive)) (int_lt-test _ _ _ refl s.near)
 
-if_given : (net : NetData) (wire : ℕ) (fails : Bool) (b : Bounds) → (fails ≡ false → IsProper b) → allowed_of net (value_part wire) (cond fails None (if_small b)) ≡ allowed_of net (value_part wire) (cond fails None (Some b))
-if_given net wire true b proper = refl
-if_given net wire false b proper = leaves_out net wire b (is_small b) (is_allowed net (value_part wire) b) (is_small-from net wire b (proper refl)) refl
+-- so they aren't left out
+pub sized_is : (role : Role) (b : Bounds) → IsSized role b → if_sized role b ≡ Some b
+sized_is Y b s = ap (λ t. cond t (Some b) None) (state_test b s)
+sized_is Value b s = ap (λ t. cond t (Some b) None) (small_test b s)
+sized_is X1 b s = ap (λ t. cond t (Some b) None) (small_test b s)
+sized_is X2 b s = ap (λ t. cond t (Some b) None) (small_test b s)
+sized_is W b s = ap (λ t. cond t (Some b) None) (small_test b s)
 
--- the same is allowed of what is found of a block's value as of what its rule gives
-pub block_found : (net : NetData) (entries : List Bounds) (i : ℕ) (item : Item) (b : Block) (given : Given) (found : Option Bounds) → IsValid net → i < length net.wires → item ≡ (wire_at net.wires i).item → item ≡ OfBlock b → AreAllowedReads net (part_rule net (value_part i)).reads entries → AreGiven given (bounds_read (block_rule net (wire_at net.wires i).kind b Value).reads (entry_of net entries)) → ((known : List Bounds) → AreGiven given known → found ≡ cond ((block_rule net (wire_at net.wires i).kind b Value).fails known) None (if_small ((block_rule net (wire_at net.wires i).kind b Value).bounds known))) → allowed_of net (value_part i) found ≡ allowed_of net (value_part i) (given_by (part_rule net (value_part i)) (entry_of net entries))
-block_found net entries i item b given found valid h is case part_allowed g e =
-    let kind = (wire_at net.wires i).kind in
-    let rule = block_rule net kind b Value in
+-- what is left out is the same bounds or nothing
+small_or_none : (b : Bounds) → (if_small b ≡ Some b) ⊎ (if_small b ≡ None)
+small_or_none b = by_test b (is_small b)
+  where
+    by_test : (b : Bounds) (t : Bool) → (cond t (Some b) None ≡ Some b) ⊎ (cond t (Some b) None ≡ None)
+    by_test b true = inl refl
+    by_test b false = inr refl
+
+some_or_none : (role : Role) (b : Bounds) → (if_sized role b ≡ Some b) ⊎ (if_sized role b ≡ None)
+some_or_none Y b = by_test b (is_state b)
+  where
+    by_test : (b : Bounds) (t : Bool) → (cond t (Some b) None ≡ Some b) ⊎ (cond t (Some b) None ≡ None)
+    by_test b true = inl refl
+    by_test b false = inr refl
+some_or_none Value b = small_or_none b
+some_or_none X1 b = small_or_none b
+some_or_none X2 b = small_or_none b
+some_or_none W b = small_or_none b
+
+leaves_out : (net : NetData) (part : Part) (b : Bounds) (is : Bool) → is_allowed net part b ≡ is → IsProper b → allowed_of net part (if_sized part.role b) ≡ allowed_of net part (Some b)
+leaves_out net part b true e proper = ap (allowed_of net part) (sized_is part.role b (sized_entry net part b (are_between net part b e) proper))
+leaves_out net part b false e proper =
+    elim (some_or_none part.role b) [
+      | inl same ↦ ap (allowed_of net part) same
+      | inr none ↦ ap (allowed_of net part) none ∙ sym (ap (λ t. cond t (Some b) None) e)
+    ]
+
+if_given : (net : NetData) (part : Part) (fails : Bool) (b : Bounds) → (fails ≡ false → IsProper b) → allowed_of net part (cond fails None (if_sized part.role b)) ≡ allowed_of net part (cond fails None (Some b))
+if_given net part true b proper = refl
+if_given net part false b proper = leaves_out net part b (is_allowed net part b) refl (proper refl)
+
+-- the same is allowed of what is found of a block's part as of what its rule gives
+pub block_found : (net : NetData) (entries : List Bounds) (part : Part) (item : Item) (b : Block) (given : Given) (found : Option Bounds) → IsValid net → part.wire.0 < length net.wires → item ≡ (wire_at net.wires part.wire.0).item → item ≡ OfBlock b → AreAllowedReads net (part_rule net part).reads entries → AreGiven given (bounds_read (part_rule net part).reads (entry_of net entries)) → ((known : List Bounds) → AreGiven given known → found ≡ cond ((block_rule net part.wire.0 b part.role).fails known) None (if_sized part.role ((block_rule net part.wire.0 b part.role).bounds known))) → allowed_of net part found ≡ allowed_of net part (given_by (part_rule net part) (entry_of net entries))
+block_found net entries part item b given found valid h is case part_allowed part_given e =
+    let i = part.wire.0 in
+    let rule = block_rule net i b part.role in
     let known = bounds_read rule.reads (entry_of net entries) in
     let here : (wire_at net.wires i).item ≡ OfBlock b = sym is ∙ case in
-    let allowed : AreAllowedReads net rule.reads entries = subst (λ t. AreAllowedReads net (item_rule net kind t Value).reads entries) here part_allowed in
+    let allowed : AreAllowedReads net rule.reads entries = subst (λ t. AreAllowedReads net (item_rule net i t part.role).reads entries) here part_allowed in
+    let g : AreGiven given known = subst (λ t. AreGiven given (bounds_read (item_rule net i t part.role).reads (entry_of net entries))) here part_given in
     let each : (q : ℕ) (l : q < length rule.reads) → is_allowed_entry net (reading_at rule.reads q).part (bounds_at known q) ≡ true = λ q l. rw (given_at rule.reads (entry_of net entries) q l) ((allowed q l).1) in
-    let proper : rule.fails known ≡ false → IsProper (rule.bounds known) = λ ruled. gives_proper rule (block_meaning net kind b) (FitReads net rule.reads) (blocks_keep net kind i b valid h here).sound known (λ q l. (allowed_entry net (reading_at rule.reads q).part (bounds_at known q) (each q l)).between.low) ruled (λ q l. (allowed_entry net (reading_at rule.reads q).part (bounds_at known q) (each q l)).proper) in
-    ap (allowed_of net (value_part i)) (e known g)
-    ∙ if_given net i (rule.fails known) (rule.bounds known) proper
-    ∙ ap (λ t. allowed_of net (value_part i) (given_by (item_rule net kind t Value) (entry_of net entries))) (sym here)
+    let proper : rule.fails known ≡ false → IsProper (rule.bounds known) = λ ruled. gives_proper rule (block_meaning net i b part.role) (FitReads net rule.reads) (blocks_keep net i b part.role valid h here).sound known (λ q l. (allowed_entry net (reading_at rule.reads q).part (bounds_at known q) (each q l)).between.low) ruled (λ q l. (allowed_entry net (reading_at rule.reads q).part (bounds_at known q) (each q l)).proper) in
+    ap (allowed_of net part) (e known g)
+    ∙ if_given net part (rule.fails known) (rule.bounds known) proper
+    ∙ ap (λ t. allowed_of net part (given_by (item_rule net i t part.role) (entry_of net entries))) (sym here)
+
+-- what a block keeps is copied
+pub kept_returns : (net : NetData) (i : ℕ) (b : Block) (role : Role) (given : Given) (known : List Bounds) (keeps : Bool) (result : Option Bounds) → has_role role (Value ∷ Y ∷ []) ≡ false → AreSized (kept_rule_of i b role).reads given → AreGiven given known → keeps ≡ has_role role (block_roles b) → result ≡ cond keeps (Some given.first) None → result ≡ cond ((kept_rule_of i b role).fails known) None (if_sized role ((kept_rule_of i b role).bounds known))
+kept_returns net i b role given known keeps result none sized g e f = by_case keeps refl
+  where
+    not_state : (role : Role) (other : Bounds) → has_role role (Value ∷ Y ∷ []) ≡ false → IsSized (kept_reading i b role).part.role other → IsSized role other
+    not_state Value other none s = absurd (cc)
+    not_state Y other none s = absurd (cc)
+    not_state X1 other none s = s
+    not_state X2 other none s = s
+    not_state W other none s = s
+
+    by_case : (t : Bool) → keeps ≡ t → result ≡ cond ((kept_rule_of i b role).fails known) None (if_sized role ((kept_rule_of i b role).bounds known))
+    by_case true is =
+        let has : has_role role (block_roles b) ≡ true = sym e ∙ is in
+        let there : AreSized (kept_reading i b role ∷ []) given = rw has at sized in
+        f ∙ ap (λ t. cond t (Some given.first) None) is ∙ sym (rw has (ap (if_sized role) (sym g.first) ∙ sized_is role given.first (not_state role given.first none there.first)))
+    by_case false is =
+        let has : has_role role (block_roles b) ≡ false = sym e ∙ is in
+        f ∙ ap (λ t. cond t (Some given.first) None) is ∙ sym (rw has refl)
 
 -- ---- the bounds of what isn't a block
 
 abbrev pub range_read : ℤ → ℤ → Bounds
 range_read lo hi = record { lo = to_z w64 (of_z w64 lo); hi = to_z w64 (of_z w64 hi); err = pos 0 }
 
-pub input_returns : (net : NetData) (i : ℕ) (read : Item) (known : Part → Bounds) (lo hi : ℤ) → FitsSigned w64 lo → FitsSigned w64 hi → read ≡ (wire_at net.wires i).item → read ≡ Input lo hi → allowed_of net (value_part i) (Some (range_read lo hi)) ≡ allowed_of net (value_part i) (given_by (part_rule net (value_part i)) known)
-input_returns net i read known lo hi f g same case =
-    let is : (wire_at net.wires i).item ≡ Input lo hi = sym same ∙ case in
-    rw (is, to_z-of_z w64 lo f, to_z-of_z w64 hi g) refl
+input_given : (net : NetData) (i : ℕ) (lo hi : ℤ) (role : Role) (known : Part → Bounds) → cond (same_role role Value) (Some (record { lo = lo; hi = hi; err = pos 0 })) None ≡ given_by (item_rule net i (Input lo hi) role) known
+input_given net i lo hi Value known = refl
+input_given net i lo hi Y known = refl
+input_given net i lo hi X1 known = refl
+input_given net i lo hi X2 known = refl
+input_given net i lo hi W known = refl
 
-pub constant_returns : (net : NetData) (i : ℕ) (read : Item) (known : Part → Bounds) (value : ℤ) → FitsSigned w64 value → read ≡ (wire_at net.wires i).item → read ≡ Const value → allowed_of net (value_part i) (Some (range_read value value)) ≡ allowed_of net (value_part i) (given_by (part_rule net (value_part i)) known)
-constant_returns net i read known value f same case =
-    let is : (wire_at net.wires i).item ≡ Const value = sym same ∙ case in
-    rw (is, to_z-of_z w64 value f) refl
+const_given : (net : NetData) (i : ℕ) (value : ℤ) (role : Role) (known : Part → Bounds) → cond (same_role role Value) (Some (record { lo = value; hi = value; err = pos 0 })) None ≡ given_by (item_rule net i (Const value) role) known
+const_given net i value Value known = refl
+const_given net i value Y known = refl
+const_given net i value X1 known = refl
+const_given net i value X2 known = refl
+const_given net i value W known = refl
+
+delay_given : (net : NetData) (i : ℕ) (init : ℤ) (source : WireNo) (role : Role) (known : Part → Bounds) (first : Bounds) → first ≡ bounds_at (bounds_read (item_rule net i (Delay init source) role).reads known) 0 → cond (same_role role Value) (Some first) None ≡ given_by (item_rule net i (Delay init source) role) known
+delay_given net i init source Value known first e = ap Some e
+delay_given net i init source Y known first e = refl
+delay_given net i init source X1 known first e = refl
+delay_given net i init source X2 known first e = refl
+delay_given net i init source W known first e = refl
+
+pub input_returns : (net : NetData) (part : Part) (read : Item) (known : Part → Bounds) (lo hi : ℤ) (result : Option Bounds) → FitsSigned w64 lo → FitsSigned w64 hi → read ≡ (wire_at net.wires part.wire.0).item → read ≡ Input lo hi → result ≡ cond (same_role part.role Value) (Some (range_read lo hi)) None → allowed_of net part result ≡ allowed_of net part (given_by (part_rule net part) known)
+input_returns net part read known lo hi result f g same case e =
+    let is : (wire_at net.wires part.wire.0).item ≡ Input lo hi = sym same ∙ case in
+    let plain = rw (to_z-of_z w64 lo f, to_z-of_z w64 hi g) at e in
+    ap (allowed_of net part) (plain ∙ input_given net part.wire.0 lo hi part.role known ∙ ap (λ t. given_by (item_rule net part.wire.0 t part.role) known) (sym is))
+
+pub constant_returns : (net : NetData) (part : Part) (read : Item) (known : Part → Bounds) (value : ℤ) (result : Option Bounds) → FitsSigned w64 value → read ≡ (wire_at net.wires part.wire.0).item → read ≡ Const value → result ≡ cond (same_role part.role Value) (Some (range_read value value)) None → allowed_of net part result ≡ allowed_of net part (given_by (part_rule net part) known)
+constant_returns net part read known value result f same case e =
+    let is : (wire_at net.wires part.wire.0).item ≡ Const value = sym same ∙ case in
+    let plain = rw (to_z-of_z w64 value f) at e in
+    ap (allowed_of net part) (plain ∙ const_given net part.wire.0 value part.role known ∙ ap (λ t. given_by (item_rule net part.wire.0 t part.role) known) (sym is))
+
+pub delay_returns : (net : NetData) (part : Part) (read : Item) (known : Part → Bounds) (init : ℤ) (source : WireNo) (given : Given) (result : Option Bounds) → read ≡ (wire_at net.wires part.wire.0).item → read ≡ Delay init source → AreGiven given (bounds_read (part_rule net part).reads known) → result ≡ cond (same_role part.role Value) (Some given.first) None → allowed_of net part result ≡ allowed_of net part (given_by (part_rule net part) known)
+delay_returns net part read known init source given result same case g e =
+    let is : (wire_at net.wires part.wire.0).item ≡ Delay init source = sym same ∙ case in
+    let first : given.first ≡ bounds_at (bounds_read (item_rule net part.wire.0 (Delay init source) part.role).reads known) 0 = subst (λ t. given.first ≡ bounds_at (bounds_read (item_rule net part.wire.0 t part.role).reads known) 0) is g.first in
+    ap (allowed_of net part) (e ∙ delay_given net part.wire.0 init source part.role known given.first first ∙ ap (λ t. given_by (item_rule net part.wire.0 t part.role) known) (sym is))
 
 -- ---- the rule of a part
 

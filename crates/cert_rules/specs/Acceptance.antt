@@ -17,11 +17,19 @@ abbrev pub is_allowed_entry : NetData → Part → Bounds → Bool
 is_allowed_entry net part b =
     is_allowed net part b && int_le b.lo b.hi && int_le (pos 0) b.err
 
--- the value from which a part starts, where it starts from one: a delay from its initial value, a state from 0
+-- the value from which a wire starts: a delay from its initial value
+abbrev pub first_value : Item → Option ℤ
+first_value (Delay init source) = Some init
+first_value item = None
+
+-- what a block keeps starts from 0
+abbrev pub start_by : Role → Option ℤ → Option ℤ
+start_by Value first = first
+start_by kept first = Some (pos 0)
+
+-- the value from which a part starts, where it starts from one
 abbrev pub start_of : Item → Role → Option ℤ
-start_of (Delay init source) Value = Some init
-start_of item Value = None
-start_of item state = Some (pos 0)
+start_of item role = start_by role (first_value item)
 
 -- the value from which a part starts lies in the entry's range
 abbrev pub starts_inside : Option ℤ → Bounds → Bool

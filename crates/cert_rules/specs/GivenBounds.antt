@@ -1,20 +1,26 @@
 -- The bounds that a rule is given in code; for private functions' clauses alone.
-use Rattle.std.specs.Prelude.{◌≡◌, ℕ, ◌<◌, List, length, get_or, IsTrue, Option, Some, None}
-use Rattle.net_model.specs.declared.wires.WireNo.{WireNo}
-use Rattle.net_model.specs.declared.wires.Role.TheVariants.{Value}
+use Rattle.std.specs.Prelude.{◌≡◌, ℕ, ◌<◌, List, length, get_or, map, IsTrue, Option, Some, None}
+use Rattle.net_model.specs.declared.wires.Role.{Role}
+use Rattle.net_model.specs.declared.wires.Role.TheVariants.{Y, Value}
 use Rattle.net_model.specs.declared.wires.Part.{Part}
 use Rattle.net_model.specs.Wires.{NetData, no_part}
 use Rattle.part_rules.specs.declared.bounds.Bounds.{Bounds}
-use Rattle.part_rules.specs.Entries.{IsSmall}
+use Rattle.part_rules.specs.Entries.{IsSmall, if_small}
 use Rattle.part_rules.specs.Within.{no_bounds}
 use Rattle.part_rules.specs.PartRules.{Reading, bounds_at, read_now}
+use Rattle.efx_rules.specs.StateEntries.{IsState, if_state}
 use Rattle.cert_rules.specs.declared.lookups.Given.{Given}
+use Rattle.cert_rules.specs.Rules.{part_on}
 use Rattle.cert_rules.specs.Acceptance.{is_allowed_entry}
 use Rattle.cert_rules.specs.Certificates.{IsPart, entry_of}
 
 -- the value of a wire, as a part
 abbrev pub value_part : ℕ → Part
-value_part wire = record { wire = record { 0 = wire }; role = Value }
+value_part wire = part_on wire Value
+
+-- the parts that are read
+abbrev pub parts_in : List (Reading Part) → List Part
+parts_in reads = map (λ reading. reading.part) reads
 
 -- reading number q, from 0
 abbrev pub reading_at : List (Reading Part) → ℕ → Reading Part
@@ -27,10 +33,10 @@ AreAllowedReads net reads entries =
     IsPart net (reading_at reads q).part
     × IsTrue (is_allowed_entry net (reading_at reads q).part (entry_of net entries (reading_at reads q).part))
 
--- the entry of a wire's value, where there is a wire
-abbrev pub entry_if : NetData → List Bounds → Option WireNo → Bounds
+-- the entry of a part, where there is one
+abbrev pub entry_if : NetData → List Bounds → Option Part → Bounds
 entry_if net entries None = no_bounds
-entry_if net entries (Some w) = entry_of net entries (value_part w.0)
+entry_if net entries (Some part) = entry_of net entries part
 
 -- these are the first three of the bounds that a rule is given; where there are fewer, they are no bounds
 pub record AreGiven (given : Given) (known : List Bounds) : Type 0 where
@@ -38,8 +44,18 @@ pub record AreGiven (given : Given) (known : List Bounds) : Type 0 where
   pub second : given.second ≡ bounds_at known 1
   pub third : given.third ≡ bounds_at known 2
 
--- each of them is small
-pub record AreSmall (given : Given) : Type 0 where
-  pub first : IsSmall given.first
-  pub second : IsSmall given.second
-  pub third : IsSmall given.third
+-- bounds of an allowed entry of a part of this role
+abbrev pub IsSized : Role → Bounds → Type 0
+IsSized Y b = IsState b
+IsSized other b = IsSmall b
+
+-- bounds, where they are small enough for a part of this role
+abbrev pub if_sized : Role → Bounds → Option Bounds
+if_sized Y b = if_state b
+if_sized other b = if_small b
+
+-- each of the bounds that a rule is given is one of an allowed entry
+pub record AreSized (reads : List (Reading Part)) (given : Given) : Type 0 where
+  pub first : IsSized (reading_at reads 0).part.role given.first
+  pub second : IsSized (reading_at reads 1).part.role given.second
+  pub third : IsSized (reading_at reads 2).part.role given.third

@@ -8,7 +8,7 @@ use Rattle.net_model.specs.declared.wires.Item.TheVariants.{Input, Const, Delay,
 use Rattle.net_model.specs.declared.wires.Role.{Role}
 use Rattle.net_model.specs.declared.wires.Role.TheVariants.{Y, X1, X2, W, Value}
 use Rattle.net_model.specs.declared.wires.Part.{Part}
-use Rattle.net_model.specs.Wires.{NetData, wire_at, kind_least, kind_greatest, argument_of, no_part}
+use Rattle.net_model.specs.Wires.{NetData, wire_at, kind_least, kind_greatest, argument_of, block_roles, has_role, no_part}
 use Rattle.net_meaning.specs.Blocks.{points_of, state_least, state_greatest}
 use Rattle.part_rules.specs.declared.bounds.Bounds.{Bounds}
 use Rattle.part_rules.specs.Within.{no_bounds}
@@ -26,17 +26,24 @@ part_on i role = record { wire = record { 0 = i }; role = role }
 abbrev pub argument_part : Block → ℕ → Part
 argument_part b p = part_on (argument_of b p) Value
 
+-- the input of a block on wire number i that keeps inputs
+abbrev pub kept_wire : ℕ → Block → ℕ
+kept_wire i (Average xty ty x n) = x.0
+kept_wire i (Pt1 xty ty x teq k) = x.0
+kept_wire i (Dt1 second xty ty x teq k) = x.0
+kept_wire i other = i
+
 -- the wire whose values a part of wire number i holds: what a block keeps of earlier rows are values of its input; any other
 -- part is of its own wire
-abbrev pub held_wire : ℕ → Item → Role → ℕ
-held_wire i (OfBlock b) X1 = argument_of b 0
-held_wire i (OfBlock b) X2 = argument_of b 0
-held_wire i (OfBlock b) W = argument_of b 0
-held_wire i item role = i
+abbrev pub held_wire : Role → ℕ → Item → ℕ
+held_wire Y i item = i
+held_wire Value i item = i
+held_wire kept i (OfBlock b) = kept_wire i b
+held_wire kept i item = i
 
 -- the same of a part
 abbrev pub holder : NetData → Part → ℕ
-holder net part = held_wire part.wire.0 (wire_at net.wires part.wire.0).item part.role
+holder net part = held_wire part.role part.wire.0 (wire_at net.wires part.wire.0).item
 
 -- ---- which bounds a part may have
 
@@ -90,32 +97,47 @@ no_rule = record { reads = []; fails = λ given. true; bounds = λ given. no_bou
 abbrev pub listed : List Part → ℕ → Part
 listed parts p = get_or parts p no_part
 
--- the rule of a part of a block on wire number i, one line for each part of a family's blocks
-unfoldable pub block_rule : NetData → ℕ → Block → Role → PartRule Part
-block_rule net i (Arith op v x y z shift) Value =
-    renamed (argument_part (Arith op v x y z shift)) (arith_rule op shift)
-block_rule net i (Scaled op v x y) Value =
+-- the rule of the value of a block on wire number i, one line a block
+abbrev pub value_rule_of : NetData → ℕ → Block → PartRule Part
+value_rule_of net i (Arith op v x y z shift) = renamed (argument_part (Arith op v x y z shift)) (arith_rule op shift)
+value_rule_of net i (Scaled op v x y) =
     let b = Scaled op v x y in renamed (argument_part b) (scaled_rule op (points_of net (wire_at net.wires i).kind b))
-block_rule net i (Gain xty ty x k) Value = renamed (listed (part_on x.0 Value ∷ [])) (gain_rule k)
-block_rule net i (Average xty ty x n) W = copied_rule (read_now (part_on x.0 Value))
-block_rule net i (Average xty ty x n) Value = renamed (listed (part_on x.0 Value ∷ part_on i W ∷ [])) average_rule
-block_rule net i (Pt1 xty ty x teq k) Y = renamed (listed (part_on i Y ∷ part_on i X1 ∷ [])) (lag_rule teq k)
-block_rule net i (Pt1 xty ty x teq k) X1 = copied_rule (read_now (part_on x.0 Value))
-block_rule net i (Pt1 xty ty x teq k) Value = renamed (listed (part_on i Y ∷ [])) value_rule
-block_rule net i (Dt1 true xty ty x teq k) Y =
+value_rule_of net i (Gain xty ty x k) = renamed (listed (part_on x.0 Value ∷ [])) (gain_rule k)
+value_rule_of net i (Average xty ty x n) = renamed (listed (part_on x.0 Value ∷ part_on i W ∷ [])) average_rule
+value_rule_of net i (Pt1 xty ty x teq k) = renamed (listed (part_on i Y ∷ [])) value_rule
+value_rule_of net i (Dt1 second xty ty x teq k) = renamed (listed (part_on i Y ∷ [])) value_rule
+
+-- the rule of its state Y, one line a block that has one
+abbrev pub state_rule_of : ℕ → Block → PartRule Part
+state_rule_of i (Pt1 xty ty x teq k) = renamed (listed (part_on i Y ∷ part_on i X1 ∷ [])) (lag_rule teq k)
+state_rule_of i (Dt1 true xty ty x teq k) =
     renamed (listed (part_on i Y ∷ part_on x.0 Value ∷ part_on i X1 ∷ [])) (difference_rule true teq k)
-block_rule net i (Dt1 false xty ty x teq k) Y =
+state_rule_of i (Dt1 false xty ty x teq k) =
     renamed (listed (part_on i Y ∷ part_on i X1 ∷ part_on i X2 ∷ [])) (difference_rule false teq k)
-block_rule net i (Dt1 second xty ty x teq k) X1 = copied_rule (read_now (part_on x.0 Value))
-block_rule net i (Dt1 second xty ty x teq k) X2 = copied_rule (read_before (part_on i X1))
-block_rule net i (Dt1 second xty ty x teq k) Value = renamed (listed (part_on i Y ∷ [])) value_rule
-block_rule net i other role = no_rule
+state_rule_of i other = no_rule
+
+-- where a block on wire number i takes what it keeps of earlier rows: the input of the row before is what that row kept as its
+-- input, anything else the input itself
+abbrev pub kept_reading : ℕ → Block → Role → Reading Part
+kept_reading i b X2 = read_before (part_on i X1)
+kept_reading i b other = read_now (part_on (kept_wire i b) Value)
+
+-- the rule of what it keeps: the bounds of that
+abbrev pub kept_rule_of : ℕ → Block → Role → PartRule Part
+kept_rule_of i b role = if has_role role (block_roles b) then copied_rule (kept_reading i b role) else no_rule
+
+-- the rule of a part of a block on wire number i
+unfoldable pub block_rule : NetData → ℕ → Block → Role → PartRule Part
+block_rule net i b Value = value_rule_of net i b
+block_rule net i b Y = state_rule_of i b
+block_rule net i b kept = kept_rule_of i b kept
 
 -- how many values a part of a wire with this item holds: a window the inputs of as many rows as its average goes over but
 -- the newest, any other part one
-abbrev pub count_held : Item → Role → ℕ
-count_held (OfBlock (Average xty ty x n)) W = n - 1
-count_held item role = 1
+abbrev pub count_held : Role → Item → ℕ
+count_held W (OfBlock (Average xty ty x n)) = n - 1
+count_held W item = 1
+count_held role item = 1
 
 -- the rule of a part of wire number i with this item
 abbrev pub item_rule : NetData → ℕ → Item → Role → PartRule Part

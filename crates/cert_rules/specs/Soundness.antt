@@ -9,7 +9,7 @@ use Rattle.net_model.specs.declared.wires.Role.{Role}
 use Rattle.net_model.specs.declared.wires.Role.TheVariants.{Y, X2, Value}
 use Rattle.net_model.specs.declared.wires.Part.{Part}
 use Rattle.net_model.specs.declared.wires.Wire.{Wire}
-use Rattle.net_model.specs.Wires.{NetData, wire_at, parts_of, input_place}
+use Rattle.net_model.specs.Wires.{NetData, wire_at, has_role, parts_of, input_place, roles_of}
 use Rattle.net_model.specs.Validity.{IsValid}
 use Rattle.net_meaning.specs.Cells.{Cell, wire_values}
 use Rattle.net_meaning.specs.Blocks.{machine, exact, as_fractions}
@@ -41,7 +41,7 @@ value_of net part cells n = value_held part.role (holder net part) cells n
 
 -- how many values a part holds
 abbrev pub count_of : NetData → Part → ℕ
-count_of net part = count_held (wire_at net.wires part.wire.0).item part.role
+count_of net part = count_held part.role (wire_at net.wires part.wire.0).item
 
 -- where wires hold these cells, each value of a part is within its entry
 abbrev pub IsPartHeld : NetData → List Bounds → Part → (ℕ → ℕ → Cell ℤ) → (ℕ → ℕ → Cell Fraction) → Type 0
@@ -98,6 +98,13 @@ abbrev pub exact_value : NetData → ℕ → List (List ℤ) → (ℕ → ℕ �
 exact_value net p rows e =
     let part = part_at net p in new_by part.role (equation exact net rows e part.wire.0) (value_of net part e 0)
 
+-- where the wire of part number p has a state Y, that of the newest row is by its equation
+abbrev pub HasItsState : NetData → ℕ → List (List ℤ) → (ℕ → ℕ → Cell ℤ) → (ℕ → ℕ → Cell Fraction) → Type 0
+HasItsState net p rows m e =
+    let i = (part_at net p).wire.0 in
+    IsTrue (has_role Y (roles_of (wire_of net p).item)) →
+    ((m 0 i).state ≡ (equation machine net rows m i).state) × ((e 0 i).state ≡ (equation exact net rows e i).state)
+
 -- part number p keeps to bounds
 pub record KeepsBounds (net : NetData) (p : ℕ) (rows : List (List ℤ)) (m : ℕ → ℕ → Cell ℤ) (e : ℕ → ℕ → Cell Fraction)
     (bounds : Bounds) : Type 0 where
@@ -120,5 +127,6 @@ RulesAreSound =
     (net : NetData) → IsValid net →
     (entries : List Bounds) (p : ℕ) → p < length (parts_of net.wires) → AreAllowedFor net entries p →
     (rows : List (List ℤ)) (m : ℕ → ℕ → Cell ℤ) (e : ℕ → ℕ → Cell Fraction) →
-    KeepsInput net p rows → IsUnderWay (wire_of net p).item rows → IsGiven net entries p m e →
+    KeepsInput net p rows → IsUnderWay (wire_of net p).item rows → HasItsState net p rows m e →
+    IsGiven net entries p m e →
     (bounds : Bounds) → rule_by net p (entry_of net entries) ≡ Some bounds → KeepsBounds net p rows m e bounds

@@ -1,12 +1,14 @@
 // Which bounds are allowed for a part.
 
 ghost use Rattle.std.specs.Prelude.{◌≡◌, ◌<◌, ◌&&◌, length, int_le, int_lt};
-ghost use Rattle.net_model.specs.Wires.{kind_greatest, kind_least, parts_of, wire_at};
-ghost use Rattle.cert_rules.specs.Rules.{cap_of_role, greatest_by_role, greatest_of_part, is_allowed, least_by_role, least_of_part};
+ghost use Rattle.net_model.specs.Wires.{kind_greatest, kind_least, parts_of};
+ghost use Rattle.net_model.specs.Validity.{IsValid};
+ghost use Rattle.cert_rules.specs.Rules.{cap_of_role, greatest_of_part, holder, is_allowed, least_of_part};
 ghost use Rattle.cert_rules.specs.Acceptance.{part_at};
 
-use crate::lookups::{kind_at, part_numbered};
-use net_model::{Kind, Network, Part, PartNo, Role};
+use crate::arguments::kept_wire;
+use crate::lookups::{item_at, kind_at, part_numbered};
+use net_model::{Item, Kind, Network, Part, PartNo, Role, WireNo};
 use part_rules::Bounds;
 
 /// The least and the greatest value of a part.
@@ -15,6 +17,12 @@ struct Ends {
     least: i64,
     greatest: i64,
 }
+
+/// Those of states.
+const ENDS_OF_STATES: Ends = Ends {
+    least: -(1 << 47),
+    greatest: (1 << 47) - 1,
+};
 
 /// Whether bounds are allowed for a part: both ends of the range lie between the ends of the part, and the
 /// error is below its cap.
@@ -29,12 +37,31 @@ pub fn allowed(net: &Network, part: PartNo, b: Bounds) -> bool
 
 /// The ends of a part.
 fn ends_of_part(net: &Network, part: Part) -> Ends
-    requires { part.wire.0 < length net.now.wires }
+    requires valid { IsValid net.now }
+    requires there { part.wire.0 < length net.now.wires }
     ensures least { result.least ≡ least_of_part net.now part }
     ensures greatest { result.greatest ≡ greatest_of_part net.now part }
 {
     match part.role {
-        Role::Value => ends_of_kind(kind_at(net, part.wire)),
+        Role::Y => ENDS_OF_STATES,
+        _ => ends_of_kind(kind_at(net, holder(net, part))),
+    }
+}
+
+/// The wire whose values a part holds: for what a block keeps of earlier rows that of its input, else the
+/// part's own.
+fn holder(net: &Network, part: Part) -> WireNo
+    requires valid { IsValid net.now }
+    requires there { part.wire.0 < length net.now.wires }
+    ensures wire { result.0 ≡ holder net.now part }
+    ensures there { result.0 < length net.now.wires }
+{
+    match part.role {
+        Role::Y | Role::Value => part.wire,
+        Role::X1 | Role::X2 | Role::W => match item_at(net, part.wire) {
+            Item::Block(block) => kept_wire(part.wire, &block),
+            _ => part.wire,
+        },
     }
 }
 
@@ -59,7 +86,8 @@ fn cap_of_role(role: Role) -> i64
     ensures { result ≡ cap_of_role role }
 {
     match role {
-        Role::Value => 1 << 40,
+        Role::Y => 1 << 56,
+        _ => 1 << 40,
     }
 }
 

@@ -5,11 +5,12 @@ ghost use Rattle.net_model.specs.Wires.{parts_of, place_in, point_of, wire_at};
 ghost use Rattle.net_model.specs.Validity.{IsValid};
 ghost use Rattle.part_rules.specs.PartRules.{bounds_read};
 ghost use Rattle.cert_rules.specs.Acceptance.{part_at};
-ghost use Rattle.cert_rules.specs.Certificates.{entry_of};
-ghost use Rattle.cert_rules.specs.GivenBounds.{AreAllowedReads, AreGiven, AreSmall, entry_if, value_part};
-ghost use Rattle.cert_rules.specs.Rules.{block_rule};
+ghost use Rattle.cert_rules.specs.Certificates.{IsPart, entry_of};
+ghost use Rattle.cert_rules.specs.GivenBounds.{AreAllowedReads, AreGiven, AreSized, entry_if};
+ghost use Rattle.cert_rules.specs.Rules.{part_on, part_rule};
 
-use net_model::{Block, Item, Kind, Network, Part, PartNo, Role, WireNo, form_of};
+use crate::arguments::parts_read;
+use net_model::{Item, Kind, Network, Part, PartNo, Role, WireNo};
 use part_rules::Bounds;
 
 /// What stands for bounds where there are none.
@@ -58,7 +59,14 @@ pub(crate) fn point_at(net: &Network, wire: WireNo) -> u8
     }
 }
 
-/// The bounds of what the rule of a block's value reads, in its order; no bounds behind the last.
+/// A part of a wire.
+pub(crate) fn part_on(wire: WireNo, role: Role) -> Part
+    ensures { result ≡ part_on wire.0 role }
+{
+    Part { wire, role }
+}
+
+/// The bounds of what the rule of a part reads, in its order; no bounds behind the last.
 #[derive(Clone, Copy)]
 pub(crate) struct Given {
     pub first: Bounds,
@@ -66,22 +74,20 @@ pub(crate) struct Given {
     pub third: Bounds,
 }
 
-/// The bounds that the rule of a block's value is given.
-pub(crate) fn given_to(net: &Network, wire: WireNo, block: &Block, all: &[Bounds]) -> Given
+/// The bounds that the rule of a part is given.
+pub(crate) fn given_to(net: &Network, part: Part, all: &[Bounds]) -> Given
     requires valid { IsValid net.now }
-    requires there { wire.0 < length net.now.wires }
-    requires block { (wire_at net.now.wires wire.0).item ≡ Item.Block block.now }
+    requires there { part.wire.0 < length net.now.wires }
     requires complete { length all.now ≡ length (parts_of net.now.wires) }
-    requires allowed { AreAllowedReads net.now (block_rule net.now (wire_at net.now.wires wire.0).kind block.now Role.Value).reads all.now }
-    ensures given { let reads = (block_rule net.now (wire_at net.now.wires wire.0).kind block.now Role.Value).reads in
-        AreGiven result (bounds_read reads (entry_of net.now all.now)) }
-    ensures small { AreSmall result }
+    requires allowed { AreAllowedReads net.now (part_rule net.now part).reads all.now }
+    ensures given { AreGiven result (bounds_read (part_rule net.now part).reads (entry_of net.now all.now)) }
+    ensures sized { AreSized (part_rule net.now part).reads result }
 {
-    let form = form_of(*block);
-    let wires = form.wires.as_slice();
-    let first = entry_if(wire_of(wires, 0), net, all);
-    let second = entry_if(wire_of(wires, 1), net, all);
-    let third = entry_if(wire_of(wires, 2), net, all);
+    let reads = parts_read(part.wire, &item_at(net, part.wire), part.role);
+    let parts = reads.as_slice();
+    let first = entry_if(part_among(parts, 0), net, all);
+    let second = entry_if(part_among(parts, 1), net, all);
+    let third = entry_if(part_among(parts, 2), net, all);
     Given {
         first,
         second,
@@ -89,45 +95,45 @@ pub(crate) fn given_to(net: &Network, wire: WireNo, block: &Block, all: &[Bounds
     }
 }
 
-fn wire_of(wires: &[WireNo], place: usize) -> Option<WireNo>
-    ensures { result ≡ slice_get wires.now place }
+fn part_among(parts: &[Part], place: usize) -> Option<Part>
+    ensures { result ≡ slice_get parts.now place }
 {
-    match wires.get(place) {
-        Some(wire) => Some(*wire),
+    match parts.get(place) {
+        Some(part) => Some(*part),
         None => None,
     }
 }
 
-/// The entry of a wire's value, where there is a wire, else no bounds.
-fn entry_if(wire: Option<WireNo>, net: &Network, all: &[Bounds]) -> Bounds
-    requires there { IfSome wire (λ w. w.0 < length net.now.wires) }
+/// The entry of a part, where there is one, else no bounds.
+fn entry_if(part: Option<Part>, net: &Network, all: &[Bounds]) -> Bounds
+    requires there { IfSome part (λ p. IsPart net.now p) }
     requires complete { length all.now ≡ length (parts_of net.now.wires) }
-    ensures { result ≡ entry_if net.now all.now wire }
+    ensures { result ≡ entry_if net.now all.now part }
 {
-    match wire {
-        Some(wire) => value_entry(net, wire, all),
+    match part {
+        Some(part) => part_entry(net, part, all),
         None => NO_BOUNDS,
     }
 }
 
-/// The entry of a wire's value.
-fn value_entry(net: &Network, wire: WireNo, entries: &[Bounds]) -> Bounds
-    requires there { wire.0 < length net.now.wires }
+/// The entry of a part.
+fn part_entry(net: &Network, part: Part, entries: &[Bounds]) -> Bounds
+    requires there { IsPart net.now part }
     requires complete { length entries.now ≡ length (parts_of net.now.wires) }
-    ensures { result ≡ entry_of net.now entries.now (value_part wire.0) }
+    ensures { result ≡ entry_of net.now entries.now part }
 {
-    let part = value_number(net, wire);
-    entries[part.0 as usize]
+    let number = part_number(net, part);
+    entries[number.0 as usize]
 }
 
-/// The number of a wire's value among the parts.
-fn value_number(net: &Network, wire: WireNo) -> PartNo
-    requires { wire.0 < length net.now.wires }
-    ensures number { result.0 ≡ place_in wire.0 Role.Value (parts_of net.now.wires) }
+/// The number of a part among all parts.
+fn part_number(net: &Network, part: Part) -> PartNo
+    requires { IsPart net.now part }
+    ensures number { result.0 ≡ place_in part.wire.0 part.role (parts_of net.now.wires) }
     ensures there { result.0 < length (parts_of net.now.wires) }
 {
-    match net.part_of(wire, Role::Value) {
-        Some(part) => part,
+    match net.part_of(part.wire, part.role) {
+        Some(number) => number,
         None => unreachable!(),
     }
 }

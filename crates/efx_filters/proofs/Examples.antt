@@ -1,5 +1,5 @@
 -- Worked values of the filters: each computes.
-use Rattle.std.proofs.Common.{◌≡◌, ℤ, pos, negsuc, true, false, [], ◌∷◌, refl}
+use Rattle.std.proofs.Common.{◌≡◌, pos, negsuc, true, false, [], ◌∷◌, refl}
 use Rattle.fx_fraction.specs.Fraction.{whole, plus, minus, times, divided, quotient}
 use Rattle.fx_core.specs.declared.word_type.Ty.TheVariants.{U8, S16, S32}
 use Rattle.fx_core.specs.Rounding.{rounded}

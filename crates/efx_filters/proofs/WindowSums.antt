@@ -1,10 +1,10 @@
 -- The sums of windows of inputs.
-use Rattle.std.proofs.Common.{◌≡◌, ℕ, zero, suc, ◌+◌, ◌-◌, ◌*◌, ◌<◌, ◌≤◌, ◌^◌, ℤ, pos, ◌+ℤ◌, ◌-ℤ◌, ◌*ℤ◌, List, [], ◌∷◌, ◌++◌, length, get_or, take, replicate, refl, sym, ap, ap₂, ◌∙◌, arith}
+use Rattle.std.proofs.Common.{◌≡◌, ℕ, zero, suc, ◌*◌, ◌<◌, ◌≤◌, ◌^◌, ℤ, pos, ◌+ℤ◌, ◌-ℤ◌, ◌*ℤ◌, List, [], ◌∷◌, length, get_or, take, replicate, refl, sym, ap, ap₂, ◌∙◌, arith}
 use Rattle.std.specs.Prelude.{All, unsigned_abs}
 use Rattle.std.proofs.lemmas.List.{get_or-replicate, get_or-take, length-replicate, length-take, length-take-le}
 use Rattle.std.proofs.lemmas.Int.{ints}
 use borrow.Author.Differences.{same_in}
-use Rattle.fx_fraction.specs.Fraction.{Fraction, whole, plus, divided, quotient}
+use Rattle.fx_fraction.specs.Fraction.{whole, plus, divided, quotient}
 use Rattle.fx_core.specs.declared.quotient.Mode.TheVariants.{Near}
 use Rattle.fx_core.specs.declared.word_type.Ty.{Ty}
 use Rattle.fx_core.specs.declared.word_type.Ty.TheVariants.{U8, S8, U16, S16, U32, S32}
@@ -86,9 +86,9 @@ pub is_average : (average : AverageData) (x sum : ℤ) → suc (length average.w
 unfolding average_value
 is_average average x sum count e =
     ap (saturated average.o) (
-      ap₂ (λ s n. rounded Near s (pos n)) e (sym count)
-      ∙ ap (rounded_fraction Near) (sym (formula_is average.window x))
-      ∙ ap (λ n. rounded_fraction Near (average_formula n (input_ago average.window x))) count
+    ap₂ (λ s n. rounded Near s (pos n)) e (sym count)
+    ∙ ap (rounded_fraction Near) (sym (formula_is average.window x))
+    ∙ ap (λ n. rounded_fraction Near (average_formula n (input_ago average.window x))) count
     )
 
 -- ---- what an average keeps
@@ -111,7 +111,7 @@ zeros_kept t n len window e count few = rw e (
   ap suc (length-replicate len (pos 0)) ∙ count,
   few,
   sym (total-zeros len),
-  λ k d h. rw (get_or-replicate len k (pos 0) d (omega (arith, h, length-replicate len (pos 0)))) (zero_held t)
+  λ k d h. rw (get_or-replicate len k (pos 0) d (omega (arith, h, length-replicate len (pos 0)))) (zero_held t),
 )
 
 -- numbers of a type with one more in front
@@ -137,7 +137,7 @@ kept_behind t n sum x last next window behind (count, few, e, held) first is_beh
   ap suc (length-take-le (length window) (x ∷ window) (omega arith)) ∙ count,
   few,
   same_in _ _ (omega (arith, ints, is_next, e, is_last, total-last x window)),
-  held_take t (length window) (x ∷ window) (held_front t x window first held)
+  held_take t (length window) (x ∷ window) (held_front t x window first held),
 )
 
 -- the number that drops out is of the type

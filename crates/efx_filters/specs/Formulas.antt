@@ -1,7 +1,7 @@
 -- The formulas of the filters, on fractions. A state Y and a gain k are raw counts with 16 fractional bits, and the weight
 -- teq of an old state is in 1/65536.
 use Rattle.std.specs.Prelude.{ℕ, zero, suc, ◌-◌, ℤ, pos, negsuc, ◌*ℤ◌}
-use Rattle.fx_fraction.specs.Fraction.{Fraction, whole, plus, minus, times, divided}
+use Rattle.fx_fraction.specs.Fraction.{Fraction, whole, plus, times, divided}
 
 -- the least state Y, -2^47
 abbrev pub state_least : ℤ

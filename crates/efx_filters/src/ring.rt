@@ -28,10 +28,7 @@ impl Ring {
         ensures { IfOk result (λ ring. ring ≡ replicate len (pos 0)) }
     {
         let slots = vec![in alloc; 0; len]?;
-        Ok(Ring {
-            slots,
-            newest: 0,
-        })
+        Ok(Ring { slots, newest: 0 })
     }
 
     /// Puts a number in front, and gives the last one, for which there is no slot then.

@@ -14,6 +14,7 @@ const HALF: i64 = 32_768;
 
 /// The ends of a state, a raw count of 48 bits.
 const LEAST_STATE: i128 = -140_737_488_355_328;
+
 const GREATEST_STATE: i128 = 140_737_488_355_327;
 
 /// `n / 65536`, rounded to the nearest whole number, a half upward. A shift rounds downward.

@@ -1,10 +1,10 @@
 -- The rules of the filters: the bounds of a value or of a state, from those of what it reads. Ranges are the hull of the
 -- rounded values at all corners, and errors are in units of 1/65536 of a raw count; those of a state Y are so too, whose
 -- raw count has 16 fractional bits.
-use Rattle.std.specs.Prelude.{ℕ, ◌-◌, Bool, List, [], ◌∷◌, ℤ, pos, ◌+ℤ◌, ◌*ℤ◌, unsigned_abs, if◌then◌else◌}
+use Rattle.std.specs.Prelude.{ℕ, ◌-◌, Bool, ℤ, pos, ◌+ℤ◌, ◌*ℤ◌, unsigned_abs, if◌then◌else◌}
 use Rattle.std.specs.Int.{int_min, int_max}
 use Rattle.std.specs.Ordering.{int_eq}
-use Rattle.fx_fraction.specs.Fraction.{Fraction, whole, minus}
+use Rattle.fx_fraction.specs.Fraction.{whole, minus}
 use Rattle.fx_core.specs.declared.quotient.Mode.TheVariants.{Near}
 use Rattle.fx_core.specs.Rounding.{least_quotient_above}
 use Rattle.fx_core.specs.Values.{rounded_fraction}

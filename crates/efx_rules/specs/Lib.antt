@@ -1,3 +1,4 @@
 pub mod FilterRules
+pub mod FilterCorners
 pub mod KeptRules
 pub mod StateEntries

@@ -1,5 +1,5 @@
 -- How small the entry of a state Y is that is allowed.
-use Rattle.std.specs.Prelude.{◌^◌, Bool, ◌&&◌, pos, negsuc, ◌≤ℤ◌, ◌<ℤ◌, int_le, int_lt, Option, Some, None, if◌then◌else◌}
+use Rattle.std.specs.Prelude.{◌^◌, Bool, ◌&&◌, pos, ◌≤ℤ◌, ◌<ℤ◌, int_le, int_lt, Option, Some, None, if◌then◌else◌}
 use Rattle.part_rules.specs.declared.bounds.Bounds.{Bounds}
 use Rattle.efx_filters.specs.Formulas.{state_least, state_greatest}
 

@@ -1,5 +1,5 @@
 -- What a line that has no fault gives: a good wire of a fresh name, or an output that isn't one yet.
-use Rattle.std.proofs.Common.{◌≡◌, ℕ, suc, ◌+◌, ◌-◌, ◌*◌, Bool, true, false, not, ◌&&◌, ◌||◌, ◌==◌, cond, nat_le, nat_lt, List, [], ◌∷◌, length, take, drop, codes, bytes_eq, refl, sym, ap, ap₂, subst, ◌∙◌, ℤ, int_le, Option, Some, None, Result, Ok, Err, arith}
+use Rattle.std.proofs.Common.{◌≡◌, ℕ, suc, ◌+◌, ◌-◌, ◌*◌, Bool, true, false, not, ◌&&◌, ◌||◌, ◌==◌, cond, nat_le, nat_lt, List, [], ◌∷◌, length, take, drop, codes, bytes_eq, refl, sym, ap, ap₂, subst, ◌∙◌, ℤ, int_le, Option, Some, None, Result, Ok, Err, arith, add-zero}
 use Rattle.std.specs.Prelude.{ok_or, is_some, option_map, option_and_then}
 use Rattle.std.specs.Char.{is_ascii_digit}
 use Rattle.std.specs.List.{list_any, position_or_len}
@@ -18,7 +18,7 @@ use Rattle.net_model.specs.declared.wires.WireNo.{WireNo}
 use Rattle.net_model.specs.declared.wires.Kind.{Kind}
 use Rattle.net_model.specs.declared.wires.Kind.TheVariants.{Num, Truth}
 use Rattle.net_model.specs.declared.wires.Item.{Item}
-use Rattle.net_model.specs.declared.wires.Item.TheVariants.{Input, Const, Block as OfBlock}
+use Rattle.net_model.specs.declared.wires.Item.TheVariants.{Input, Const, Delay, Block as OfBlock}
 use Rattle.net_model.specs.declared.wires.Wire.{Wire}
 use Rattle.net_model.specs.declared.signatures.Sort.{Sort}
 use Rattle.net_model.specs.declared.signatures.Range.{Range}
@@ -28,15 +28,17 @@ use Rattle.net_text.specs.declared.keyword.Keyword.{Keyword}
 use Rattle.net_text.specs.declared.keyword.Keyword.TheVariants.{InLine, ConstLine, AxisLine, AxisStepLine, AxisShiftLine, TableLine, MapLine, WireLine, DelayLine}
 use Rattle.net_text.specs.declared.line_forms.Content.{Content}
 use Rattle.net_text.specs.declared.line_forms.Given.{Given}
-use Rattle.net_model.specs.Wires.{NetData, wire_at, place_of}
+use Rattle.net_model.specs.Wires.{NetData, wire_at, place_of, window_of, window_sum}
 use Rattle.net_model.specs.Families.{is_built, signature_of, block_of}
 use Rattle.net_model.specs.BlockForms.{in_range as is_in_range, in_ranges, signature_in, form_of, repeats_first, adds_no_number}
 use Rattle.net_model.specs.Validity.{is_among, is_good_kind, kind_holds, is_of_sort, takes_form, wires_earlier, wires_agree, form_agrees, numbers_fit, is_built_item, item_reads_earlier, item_agrees, item_in_range}
+use Rattle.net_model.specs.Faults.{has_room}
 use Rattle.net_model.proofs.SideBySide.{same_lengths}
 use Rattle.net_model.proofs.FamilyFacts.{IsFull, block_of_full}
 use Rattle.net_text.specs.TypeWords.{ty_of, ty_len, one_digit, two_digits, point_of_word, number_kind_of, kind_of}
 use Rattle.net_text.specs.RoutineWords.{routine_at}
-use Rattle.net_text.specs.Forms.{keyword_of, is_wire, are_known, axis_passes, is_type, is_narrow, wire_above, wire_named, wires_named, are_numbers, number_in, numbers_in, fresh, has_room, number_at, input_of, const_of, kind_at, agreed, in_line, const_line, given_line, wire_line, unbuilt_line, line_of, is_known, is_output, out_line, defining_line}
+use Rattle.net_text.specs.Forms.{is_wire, are_known, axis_passes, is_type, is_narrow, wire_above, wire_named, wires_named, are_numbers, number_in, numbers_in, fresh, number_at, input_of, const_of, kind_at, agreed, has_place, with_room, in_line, const_line, given_line, wire_line, source_named, delay_kind, delay_of, delay_line, unbuilt_line, line_of, is_known, is_output, out_line, defining_line}
+use Rattle.net_text.specs.Names.{keyword_of}
 
 -- ---- tests
 
@@ -60,9 +62,9 @@ not_true true h = sym h
 not_true false h = refl
 
 -- what passes a test has it
-pub demand_ok : (test : Bool) (kind : NetKind) (done : Unit {0}) → demand test kind ≡ Ok done → test ≡ true
-demand_ok true kind done h = refl
-demand_ok false kind done h = cc
+pub demand_ok : {E : Type 0} (test : Bool) (fault : E) (done : Unit {0}) → demand test fault ≡ Ok done → test ≡ true
+demand_ok true fault done h = refl
+demand_ok false fault done h = absurd (cc)
 
 -- what is found is there
 ok_or_ok : {A : Type 0} (found : Option A) (kind : NetKind) (value : A) → ok_or found kind ≡ Ok value → found ≡ Some value
@@ -157,11 +159,11 @@ kind_good word kind h =
 -- ---- steps
 
 -- what comes first gives what the rest goes on with
-bind_ok : {A B E : Type 0} (r : Result A E) (f : A → Result B E) (b : B) → (r >>= f) ≡ Ok b → (a : A) × (r ≡ Ok a) × (f a ≡ Ok b)
+pub bind_ok : {A B E : Type 0} (r : Result A E) (f : A → Result B E) (b : B) → (r >>= f) ≡ Ok b → (a : A) × (r ≡ Ok a) × (f a ≡ Ok b)
 bind_ok (Ok a) f b h = (a, refl, h)
 bind_ok (Err e) f b h = absurd (cc)
 
-same_ok : {A E : Type 0} (a b : A) → ◌≡◌ {A = Result A E} (Ok a) (Ok b) → a ≡ b
+pub same_ok : {A E : Type 0} (a b : A) → ◌≡◌ {A = Result A E} (Ok a) (Ok b) → a ≡ b
 same_ok a b h = cc
 
 -- ---- routines
@@ -188,6 +190,7 @@ pub record IsGood (net : NetData) (name : List ℕ) (content : Content) : Type 0
   pub named : is_name name ≡ true
   pub fresh : is_wire net.wires name ≡ false
   pub room : nat_lt (length net.wires) 512 ≡ true
+  pub rows : nat_le (window_sum net.wires) 65536 ≡ true → nat_le (window_sum net.wires + window_of content.item) 65536 ≡ true
   pub kind : is_good_kind content.kind ≡ true
   pub item : IsGoodItem net content.kind content.item
 
@@ -207,73 +210,101 @@ unfolding fresh
 fresh_ok wires name done h =
     let p = fresh_tests (is_name name) (is_wire wires name) done h in record { named = p.0; fresh = p.1 }
 
+-- a good item that is no average
+record IsPlain (net : NetData) (kind : Kind) (item : Item) : Type 0 where
+  good : IsGoodItem net kind item
+  plain : window_of item ≡ 0
+
 -- an input's range, and a constant, are good in their kind
-range_in : (net : NetData) (kind : Kind) (lo hi : ℤ) (test : Bool) (item : Item) → (kind_holds kind lo && kind_holds kind hi && int_le lo hi) ≡ test → (demand test OutOfRange >>= λ _. Ok (Input lo hi)) ≡ Ok item → IsGoodItem net kind item
+range_in : (net : NetData) (kind : Kind) (lo hi : ℤ) (test : Bool) (item : Item) → (kind_holds kind lo && kind_holds kind hi && int_le lo hi) ≡ test → (demand test OutOfRange >>= λ _. Ok (Input lo hi)) ≡ Ok item → IsPlain net kind item
 range_in net kind lo hi true item e h =
     let same : Input lo hi ≡ item = cc in
-    let good : IsGoodItem net kind (Input lo hi) = record { built = refl; earlier = refl; agreed = refl; in_range = e } in
-    subst (λ x. IsGoodItem net kind x) same good
+    let good : IsPlain net kind (Input lo hi) = record { good = record { built = refl; earlier = refl; agreed = refl; in_range = e }; plain = refl } in
+    subst (λ x. IsPlain net kind x) same good
 range_in net kind lo hi false item e h = cc
 
 -- both numbers are there
-range_tests : (net : NetData) (kind : Kind) (low high : Result ℤ NetKind) (item : Item) → (low >>= λ lo. high >>= λ hi. demand (kind_holds kind lo && kind_holds kind hi && int_le lo hi) OutOfRange >>= λ _. Ok (Input lo hi)) ≡ Ok item → IsGoodItem net kind item
+range_tests : (net : NetData) (kind : Kind) (low high : Result ℤ NetKind) (item : Item) → (low >>= λ lo. high >>= λ hi. demand (kind_holds kind lo && kind_holds kind hi && int_le lo hi) OutOfRange >>= λ _. Ok (Input lo hi)) ≡ Ok item → IsPlain net kind item
 range_tests net kind (Err fault) high item h = cc
 range_tests net kind (Ok lo) (Err fault) item h = cc
 range_tests net kind (Ok lo) (Ok hi) item h =
     range_in net kind lo hi (kind_holds kind lo && kind_holds kind hi && int_le lo hi) item refl h
 
 -- the range of an input is good
-input_good : (net : NetData) (kind : Kind) (low high : List ℕ) (item : Item) → input_of kind low high ≡ Ok item → IsGoodItem net kind item
+input_good : (net : NetData) (kind : Kind) (low high : List ℕ) (item : Item) → input_of kind low high ≡ Ok item → IsPlain net kind item
 unfolding input_of
 input_good net kind low high item h = range_tests net kind (number_at low) (number_at high) item h
 
 -- the value lies in its kind
-value_in : (net : NetData) (kind : Kind) (value : ℤ) (test : Bool) (item : Item) → kind_holds kind value ≡ test → (demand test OutOfRange >>= λ _. Ok (Const value)) ≡ Ok item → IsGoodItem net kind item
+value_in : (net : NetData) (kind : Kind) (value : ℤ) (test : Bool) (item : Item) → kind_holds kind value ≡ test → (demand test OutOfRange >>= λ _. Ok (Const value)) ≡ Ok item → IsPlain net kind item
 value_in net kind value true item e h =
     let same : Const value ≡ item = cc in
-    let good : IsGoodItem net kind (Const value) = record { built = refl; earlier = refl; agreed = refl; in_range = e } in
-    subst (λ x. IsGoodItem net kind x) same good
+    let good : IsPlain net kind (Const value) = record { good = record { built = refl; earlier = refl; agreed = refl; in_range = e }; plain = refl } in
+    subst (λ x. IsPlain net kind x) same good
 value_in net kind value false item e h = cc
 
 -- the number is there
-value_tests : (net : NetData) (kind : Kind) (number : Result ℤ NetKind) (item : Item) → (number >>= λ value. demand (kind_holds kind value) OutOfRange >>= λ _. Ok (Const value)) ≡ Ok item → IsGoodItem net kind item
+value_tests : (net : NetData) (kind : Kind) (number : Result ℤ NetKind) (item : Item) → (number >>= λ value. demand (kind_holds kind value) OutOfRange >>= λ _. Ok (Const value)) ≡ Ok item → IsPlain net kind item
 value_tests net kind (Err fault) item h = cc
 value_tests net kind (Ok value) item h = value_in net kind value (kind_holds kind value) item refl h
 
 -- the value of a constant is good
-const_of_good : (net : NetData) (kind : Kind) (word : List ℕ) (item : Item) → const_of kind word ≡ Ok item → IsGoodItem net kind item
+const_of_good : (net : NetData) (kind : Kind) (word : List ℕ) (item : Item) → const_of kind word ≡ Ok item → IsPlain net kind item
 unfolding const_of
 const_of_good net kind word item h = value_tests net kind (number_at word) item h
 
--- an input's line and a constant's have one shape
-content_end : (net : NetData) (name : List ℕ) (room : Result (Unit {0}) NetKind) (kind : Kind) (item : Result Item NetKind) (content : Content) → IsFresh net.wires name → is_good_kind kind ≡ true → ((x : Item) → item ≡ Ok x → IsGoodItem net kind x) → ((done : Unit {0}) → room ≡ Ok done → nat_lt (length net.wires) 512 ≡ true) → (item >>= λ x. room >>= λ _. Ok (record { kind = kind; item = x })) ≡ Ok content → IsGood net name content
-content_end net name room kind (Err fault) content new good i r h = cc
-content_end net name (Err fault) kind (Ok item) content new good i r h = cc
+-- where there is room, a block's wire is good
+with_room_good : (net : NetData) (name : List ℕ) (kind : Kind) (item : Item) (content : Content) → IsFresh net.wires name → is_good_kind kind ≡ true → IsGoodItem net kind item → with_room net.wires kind item ≡ Ok content → IsGood net name content
+with_room_good net name kind item content new good is h = by (has_room net.wires item) refl h
+  where
+    by : (room : Bool) → has_room net.wires item ≡ room → (demand room TooMany >>= λ _. Ok (record { kind = kind; item = item })) ≡ Ok content → IsGood net name content
+    by true e h =
+        let made : Content = record { kind = kind; item = item } in
+        let first : IsGood net name made = record {
+          named = new.named;
+          fresh = new.fresh;
+          room = first_of_both (nat_lt (length net.wires) 512) (nat_le (window_sum net.wires + window_of item) 65536) e;
+          rows = λ below. second_of_both (nat_lt (length net.wires) 512) (nat_le (window_sum net.wires + window_of item) 65536) e;
+          kind = good;
+          item = is;
+        } in
+        subst (λ c. IsGood net name c) (same_ok made content h) first
+    by false e h = absurd (cc)
+
+-- the lines of inputs, constants and delays have one end
+content_end : (net : NetData) (name : List ℕ) (room : Result (Unit {0}) NetKind) (kind : Kind) (item : Result Item NetKind) (content : Content) → IsFresh net.wires name → is_good_kind kind ≡ true → ((x : Item) → item ≡ Ok x → IsPlain net kind x) → ((done : Unit {0}) → room ≡ Ok done → nat_lt (length net.wires) 512 ≡ true) → (item >>= λ x. room >>= λ _. Ok (record { kind = kind; item = x })) ≡ Ok content → IsGood net name content
+content_end net name room kind (Err fault) content new good i r h = absurd (cc)
+content_end net name (Err fault) kind (Ok item) content new good i r h = absurd (cc)
 content_end net name (Ok done) kind (Ok item) content new good i r h =
     let made : Content = record { kind = kind; item = item } in
-    let same : made ≡ content = cc in
-    let first : IsGood net name made = record { named = new.named; fresh = new.fresh; room = r done refl; kind = good; item = i item refl } in
-    subst (λ c. IsGood net name c) same first
+    let is = i item refl in
+    let none : window_sum net.wires + window_of item ≡ window_sum net.wires = ap (λ n. window_sum net.wires + n) is.plain ∙ add-zero (window_sum net.wires) in
+    let first : IsGood net name made = record { named = new.named; fresh = new.fresh; room = r done refl; rows = λ below. ap (λ n. nat_le n 65536) none ∙ below; kind = good; item = is.good } in
+    subst (λ c. IsGood net name c) (same_ok made content h) first
 
 -- from the front on
-content_tests : (net : NetData) (name : List ℕ) (form new room : Result (Unit {0}) NetKind) (kind : Result Kind NetKind) (item : Kind → Result Item NetKind) (content : Content) → ((done : Unit {0}) → new ≡ Ok done → IsFresh net.wires name) → ((k : Kind) → kind ≡ Ok k → is_good_kind k ≡ true) → ((k : Kind) (x : Item) → item k ≡ Ok x → IsGoodItem net k x) → ((done : Unit {0}) → room ≡ Ok done → nat_lt (length net.wires) 512 ≡ true) → (form >>= λ _. new >>= λ _. kind >>= λ k. item k >>= λ x. room >>= λ _. Ok (record { kind = k; item = x })) ≡ Ok content → IsGood net name content
-content_tests net name (Err fault) new room kind item content f g i r h = cc
-content_tests net name (Ok _) (Err fault) room kind item content f g i r h = cc
-content_tests net name (Ok _) (Ok new) room (Err fault) item content f g i r h = cc
+content_tests : (net : NetData) (name : List ℕ) (form new room : Result (Unit {0}) NetKind) (kind : Result Kind NetKind) (item : Kind → Result Item NetKind) (content : Content) → ((done : Unit {0}) → new ≡ Ok done → IsFresh net.wires name) → ((k : Kind) → kind ≡ Ok k → is_good_kind k ≡ true) → ((k : Kind) (x : Item) → item k ≡ Ok x → IsPlain net k x) → ((done : Unit {0}) → room ≡ Ok done → nat_lt (length net.wires) 512 ≡ true) → (form >>= λ _. new >>= λ _. kind >>= λ k. item k >>= λ x. room >>= λ _. Ok (record { kind = k; item = x })) ≡ Ok content → IsGood net name content
+content_tests net name (Err fault) new room kind item content f g i r h = absurd (cc)
+content_tests net name (Ok _) (Err fault) room kind item content f g i r h = absurd (cc)
+content_tests net name (Ok _) (Ok new) room (Err fault) item content f g i r h = absurd (cc)
 content_tests net name (Ok _) (Ok new) room (Ok kind) item content f g i r h =
     content_end net name room kind (item kind) content (f new refl) (g kind refl) (λ x e. i kind x e) r h
+
+-- that there is room for one more wire
+place_ok : (wires : List Wire) (done : Unit {0}) → has_place wires ≡ Ok done → nat_lt (length wires) 512 ≡ true
+place_ok wires done e = demand_ok (nat_lt (length wires) 512) TooMany done e
 
 -- an input gives a good wire
 in_good : (net : NetData) (words : List (List ℕ)) (content : Content) → in_line net.wires words ≡ Ok content → IsGood net (nth words 1) content
 unfolding in_line
 in_good net words content h =
-    content_tests net (nth words 1) (demand (length words == 5) BadLine) (fresh net.wires (nth words 1)) (has_room net.wires) (kind_at (nth words 2)) (λ k. input_of k (nth words 3) (nth words 4)) content (λ done e. fresh_ok net.wires (nth words 1) done e) (λ k e. kind_good (nth words 2) k (ok_or_ok (kind_of (nth words 2)) BadType k e)) (λ k x e. input_good net k (nth words 3) (nth words 4) x e) (λ done e. demand_ok (nat_lt (length net.wires) 512) TooMany done e) h
+    content_tests net (nth words 1) (demand (length words == 5) BadLine) (fresh net.wires (nth words 1)) (has_place net.wires) (kind_at (nth words 2)) (λ k. input_of k (nth words 3) (nth words 4)) content (λ done e. fresh_ok net.wires (nth words 1) done e) (λ k e. kind_good (nth words 2) k (ok_or_ok (kind_of (nth words 2)) BadType k e)) (λ k x e. input_good net k (nth words 3) (nth words 4) x e) (place_ok net.wires) h
 
 -- a constant gives a good wire
 const_good : (net : NetData) (words : List (List ℕ)) (content : Content) → const_line net.wires words ≡ Ok content → IsGood net (nth words 1) content
 unfolding const_line
 const_good net words content h =
-    content_tests net (nth words 1) (demand (length words == 4) BadLine) (fresh net.wires (nth words 1)) (has_room net.wires) (kind_at (nth words 2)) (λ k. const_of k (nth words 3)) content (λ done e. fresh_ok net.wires (nth words 1) done e) (λ k e. kind_good (nth words 2) k (ok_or_ok (kind_of (nth words 2)) BadType k e)) (λ k x e. const_of_good net k (nth words 3) x e) (λ done e. demand_ok (nat_lt (length net.wires) 512) TooMany done e) h
+    content_tests net (nth words 1) (demand (length words == 4) BadLine) (fresh net.wires (nth words 1)) (has_place net.wires) (kind_at (nth words 2)) (λ k. const_of k (nth words 3)) content (λ done e. fresh_ok net.wires (nth words 1) done e) (λ k e. kind_good (nth words 2) k (ok_or_ok (kind_of (nth words 2)) BadType k e)) (λ k x e. const_of_good net k (nth words 3) x e) (place_ok net.wires) h
 
 -- ---- the wires of a form
 
@@ -337,39 +368,36 @@ pub record IsGiven (net : NetData) (routine : Routine) (types : Types) (word : L
   pub found : kind_of word ≡ Some given.kind
   pub agrees : form_agrees net given.kind given.form ≡ true
   pub fits : numbers_fit given.form ≡ true
-  pub room : nat_lt (length net.wires) 512 ≡ true
 
 -- what the steps of a routine's line gave
-record IsMade (routine : Routine) (types : Types) (wires : Result (List WireNo) NetKind) (kind : Form → Result Kind NetKind) (numbers : Result (List ℤ) NetKind) (room : Result (Unit {0}) NetKind) (given : Given) : Type 0 where
+record IsMade (routine : Routine) (types : Types) (wires : Result (List WireNo) NetKind) (kind : Form → Result Kind NetKind) (numbers : Result (List ℤ) NetKind) (given : Given) : Type 0 where
   routine_is : given.form.routine ≡ routine
   types_are : given.form.types ≡ types
   wires_are : wires ≡ Ok given.form.wires
   kind_is : kind (record { routine = routine; types = types; wires = given.form.wires; numbers = [] }) ≡ Ok given.kind
   numbers_are : numbers ≡ Ok given.form.numbers
-  room_is : room ≡ Ok tt
 
 -- once its wires are read
-made_of : (routine : Routine) (types : Types) (ws : List WireNo) (kind : Form → Result Kind NetKind) (typed : Result Kind NetKind) (are : Result (Unit {0}) NetKind) (numbers : Result (List ℤ) NetKind) (room : Result (Unit {0}) NetKind) (given : Given)
-    → kind (record { routine = routine; types = types; wires = ws; numbers = [] }) ≡ typed → (typed >>= λ k. are >>= λ _. numbers >>= λ ns. room >>= λ _. Ok (record { kind = k; form = record { routine = routine; types = types; wires = ws; numbers = ns } })) ≡ Ok given
-    → IsMade routine types (Ok ws) kind numbers room given
-made_of routine types ws kind (Err f) are numbers room given e h = absurd (cc)
-made_of routine types ws kind (Ok k) (Err f) numbers room given e h = absurd (cc)
-made_of routine types ws kind (Ok k) (Ok u) (Err f) room given e h = absurd (cc)
-made_of routine types ws kind (Ok k) (Ok u) (Ok ns) (Err f) given e h = absurd (cc)
-made_of routine types ws kind (Ok k) (Ok u) (Ok ns) (Ok w) given e h =
+made_of : (routine : Routine) (types : Types) (ws : List WireNo) (kind : Form → Result Kind NetKind) (typed : Result Kind NetKind) (are : Result (Unit {0}) NetKind) (numbers : Result (List ℤ) NetKind) (given : Given)
+    → kind (record { routine = routine; types = types; wires = ws; numbers = [] }) ≡ typed → (typed >>= λ k. are >>= λ _. numbers >>= λ ns. Ok (record { kind = k; form = record { routine = routine; types = types; wires = ws; numbers = ns } })) ≡ Ok given
+    → IsMade routine types (Ok ws) kind numbers given
+made_of routine types ws kind (Err f) are numbers given e h = absurd (cc)
+made_of routine types ws kind (Ok k) (Err f) numbers given e h = absurd (cc)
+made_of routine types ws kind (Ok k) (Ok u) (Err f) given e h = absurd (cc)
+made_of routine types ws kind (Ok k) (Ok u) (Ok ns) given e h =
     let one : Given = record { kind = k; form = record { routine = routine; types = types; wires = ws; numbers = ns } } in
-    let is : IsMade routine types (Ok ws) kind (Ok ns) (Ok w) one = record { routine_is = refl; types_are = refl; wires_are = refl; kind_is = e; numbers_are = refl; room_is = refl } in
-    subst (λ g. IsMade routine types (Ok ws) kind (Ok ns) (Ok w) g) (same_ok one given h) is
+    let is : IsMade routine types (Ok ws) kind (Ok ns) one = record { routine_is = refl; types_are = refl; wires_are = refl; kind_is = e; numbers_are = refl } in
+    subst (λ g. IsMade routine types (Ok ws) kind (Ok ns) g) (same_ok one given h) is
 
-made : (routine : Routine) (types : Types) (count known axis : Result (Unit {0}) NetKind) (wires : Result (List WireNo) NetKind) (kind : Form → Result Kind NetKind) (are : Result (Unit {0}) NetKind) (numbers : Result (List ℤ) NetKind) (room : Result (Unit {0}) NetKind) (given : Given)
-    → (count >>= λ _. known >>= λ _. axis >>= λ _. wires >>= λ ws. kind (record { routine = routine; types = types; wires = ws; numbers = [] }) >>= λ k. are >>= λ _. numbers >>= λ ns. room >>= λ _. Ok (record { kind = k; form = record { routine = routine; types = types; wires = ws; numbers = ns } })) ≡ Ok given
-    → IsMade routine types wires kind numbers room given
-made routine types (Err f) known axis wires kind are numbers room given h = absurd (cc)
-made routine types (Ok a) (Err f) axis wires kind are numbers room given h = absurd (cc)
-made routine types (Ok a) (Ok b) (Err f) wires kind are numbers room given h = absurd (cc)
-made routine types (Ok a) (Ok b) (Ok c) (Err f) kind are numbers room given h = absurd (cc)
-made routine types (Ok a) (Ok b) (Ok c) (Ok ws) kind are numbers room given h =
-    made_of routine types ws kind (kind (record { routine = routine; types = types; wires = ws; numbers = [] })) are numbers room given refl h
+made : (routine : Routine) (types : Types) (count known axis : Result (Unit {0}) NetKind) (wires : Result (List WireNo) NetKind) (kind : Form → Result Kind NetKind) (are : Result (Unit {0}) NetKind) (numbers : Result (List ℤ) NetKind) (given : Given)
+    → (count >>= λ _. known >>= λ _. axis >>= λ _. wires >>= λ ws. kind (record { routine = routine; types = types; wires = ws; numbers = [] }) >>= λ k. are >>= λ _. numbers >>= λ ns. Ok (record { kind = k; form = record { routine = routine; types = types; wires = ws; numbers = ns } })) ≡ Ok given
+    → IsMade routine types wires kind numbers given
+made routine types (Err f) known axis wires kind are numbers given h = absurd (cc)
+made routine types (Ok a) (Err f) axis wires kind are numbers given h = absurd (cc)
+made routine types (Ok a) (Ok b) (Err f) wires kind are numbers given h = absurd (cc)
+made routine types (Ok a) (Ok b) (Ok c) (Err f) kind are numbers given h = absurd (cc)
+made routine types (Ok a) (Ok b) (Ok c) (Ok ws) kind are numbers given h =
+    made_of routine types ws kind (kind (record { routine = routine; types = types; wires = ws; numbers = [] })) are numbers given refl h
 
 pub given_good : (lines : List (List ℕ)) (net : NetData) (routine : Routine) (types : Types) (words : List (List ℕ)) (given : Given) → given_line lines net routine types (signature_of routine types) words ≡ Ok given → IsGiven net routine types (nth words 2) given
 unfolding given_line
@@ -377,7 +405,7 @@ given_good lines net routine types words given h =
     let sig = signature_of routine types in
     let first = 5 + length sig.sorts in
     let m = made routine types (demand (length words == first + length sig.ranges) BadCount) (demand (axis_passes (is_known lines net.wires) (nth words 2) && are_known lines net.wires sig.sorts 5 words) UnknownName) (demand (axis_passes (is_wire net.wires) (nth words 2)) LaterWire) (wires_named net.wires sig.sorts 5 words)
-    (λ form. agreed net form (nth words 2)) (demand (are_numbers sig.ranges first words) BadNumber) (numbers_in sig.ranges first words) (has_room net.wires) given h in
+    (λ form. agreed net form (nth words 2)) (demand (are_numbers sig.ranges first words) BadNumber) (numbers_in sig.ranges first words) given h in
     let agree = agreed_good net (record { routine = routine; types = types; wires = given.form.wires; numbers = [] }) (nth words 2) given.kind m.kind_is in
     record {
       routine_is = m.routine_is;
@@ -386,7 +414,6 @@ given_good lines net routine types words given h =
       found = agree.found;
       agrees = ap₂ (λ r t. form_agrees net given.kind (record { routine = r; types = t; wires = given.form.wires; numbers = [] })) m.routine_is m.types_are ∙ agree.agrees;
       fits = ap₂ (λ r t. in_ranges (signature_of r t).ranges given.form.numbers) m.routine_is m.types_are ∙ numbers_good sig.ranges first words given.form.numbers m.numbers_are;
-      room = demand_ok (nat_lt (length net.wires) 512) TooMany tt m.room_is;
     }
 
 -- a form's types are its routine's
@@ -400,7 +427,7 @@ block_good : (net : NetData) (kind : Kind) (form : Form) → is_built form.routi
 block_good net kind form built earlier agrees fits =
     let sig = signature_in form in
     let agree = second_of_both (takes_form form) (wires_agree net.wires sig.sorts form.wires) (first_of_both (takes_form form && wires_agree net.wires sig.sorts form.wires) (is_of_sort sig.gives kind) agrees) in
-    let full : IsFull form = record { built = built; wires = same_lengths (λ sort w. is_of_sort sort (wire_at net.wires w.0).kind) sig.sorts form.wires agree; numbers = fits } in
+    let full : IsFull form = record { built = built; taken = takes_given net kind form agrees; wires = same_lengths (λ sort w. is_of_sort sort (wire_at net.wires w.0).kind) sig.sorts form.wires agree; numbers = fits } in
     let b = block_of form in
     let is = block_of_full form full in
     record {
@@ -417,44 +444,70 @@ given_ready lines net routine types signature words given same built h =
     let is = given_good lines net routine types words given (ap (λ s. given_line lines net routine types s words) (sym same) ∙ h) in
     (ap is_built is.routine_is ∙ built, takes_given net given.kind given.form is.agrees, is.fits)
 
--- what a wire's line gives
-abbrev content_of : Given → Content
-content_of given = record { kind = given.kind; item = OfBlock (block_of given.form) }
+-- what a wire's line gives, where there is room for it
+abbrev content_of : List Wire → Given → Result Content NetKind
+content_of wires given = with_room wires given.kind (OfBlock (block_of given.form))
 
 -- what the steps of a wire's line gave
-record IsWireMade (new : Result (Unit {0}) NetKind) (found : Result (Routine × Types) NetKind) (given : Routine × Types → Result Given NetKind) (content : Content) : Type 0 where
+record IsWireMade (wires : List Wire) (new : Result (Unit {0}) NetKind) (found : Result (Routine × Types) NetKind) (given : Routine × Types → Result Given NetKind) (content : Content) : Type 0 where
   new_is : new ≡ Ok tt
   routine : Routine × Types
   found_is : found ≡ Ok routine
   made : Given
   made_is : given routine ≡ Ok made
-  same : content_of made ≡ content
+  gives : content_of wires made ≡ Ok content
 
-wire_made : (form new type : Result (Unit {0}) NetKind) (found : Result (Routine × Types) NetKind) (given : Routine × Types → Result Given NetKind) (content : Content)
-    → (form >>= λ _. new >>= λ _. type >>= λ _. found >>= λ f. given f >>= λ g. Ok (content_of g)) ≡ Ok content → IsWireMade new found given content
-wire_made (Err e) new type found given content h = absurd (cc)
-wire_made (Ok a) (Err e) type found given content h = absurd (cc)
-wire_made (Ok a) (Ok b) (Err e) found given content h = absurd (cc)
-wire_made (Ok a) (Ok b) (Ok c) (Err e) given content h = absurd (cc)
-wire_made (Ok a) (Ok b) (Ok c) (Ok f) given content h =
-    let r = bind_ok (given f) (λ g. Ok (content_of g)) content h in
-    record { new_is = refl; routine = f; found_is = refl; made = r.0; made_is = r.1; same = same_ok (content_of r.0) content r.2 }
+wire_made : (wires : List Wire) (form new type : Result (Unit {0}) NetKind) (found : Result (Routine × Types) NetKind) (given : Routine × Types → Result Given NetKind) (content : Content)
+    → (form >>= λ _. new >>= λ _. type >>= λ _. found >>= λ f. given f >>= λ g. content_of wires g) ≡ Ok content → IsWireMade wires new found given content
+wire_made wires (Err e) new type found given content h = absurd (cc)
+wire_made wires (Ok a) (Err e) type found given content h = absurd (cc)
+wire_made wires (Ok a) (Ok b) (Err e) found given content h = absurd (cc)
+wire_made wires (Ok a) (Ok b) (Ok c) (Err e) given content h = absurd (cc)
+wire_made wires (Ok a) (Ok b) (Ok c) (Ok f) given content h =
+    let r = bind_ok (given f) (λ g. content_of wires g) content h in
+    record { new_is = refl; routine = f; found_is = refl; made = r.0; made_is = r.1; gives = r.2 }
 
 -- a wire of a routine is good
 wire_good : (lines : List (List ℕ)) (net : NetData) (words : List (List ℕ)) (content : Content) → wire_line lines net words ≡ Ok content → IsGood net (nth words 1) content
 unfolding wire_line
 wire_good lines net words content h =
-    let m = wire_made (demand (nat_le 6 (length words) && bytes_eq (nth words 3) (codes "=")) BadLine) (fresh net.wires (nth words 1)) (demand (is_type (nth words 2)) BadType) (routine_at (nth words 4)) (λ f. given_line lines net f.0 f.1 (signature_of f.0 f.1) words) content h in
+    let m = wire_made net.wires (demand (nat_le 6 (length words) && bytes_eq (nth words 3) (codes "=")) BadLine) (fresh net.wires (nth words 1)) (demand (is_type (nth words 2)) BadType) (routine_at (nth words 4)) (λ f. given_line lines net f.0 f.1 (signature_of f.0 f.1) words) content h in
     let name = fresh_ok net.wires (nth words 1) tt m.new_is in
     let given = given_good lines net m.routine.0 m.routine.1 words m.made m.made_is in
-    let is : IsGood net (nth words 1) (content_of m.made) = record {
-      named = name.named;
-      fresh = name.fresh;
-      room = given.room;
-      kind = kind_good (nth words 2) m.made.kind given.found;
-      item = block_good net m.made.kind m.made.form (ap is_built given.routine_is ∙ routine_built (nth words 4) m.routine m.found_is) given.earlier given.agrees given.fits;
-    } in
-    subst (λ c. IsGood net (nth words 1) c) m.same is
+    let block = block_good net m.made.kind m.made.form (ap is_built given.routine_is ∙ routine_built (nth words 4) m.routine m.found_is) given.earlier given.agrees given.fits in
+    with_room_good net (nth words 1) m.made.kind (OfBlock (block_of m.made.form)) content name (kind_good (nth words 2) m.made.kind given.found) block m.gives
+
+-- ---- a delay
+
+-- its first value is good
+delay_of_good : (net : NetData) (kind : Kind) (word : List ℕ) (source : WireNo) (item : Item) → delay_of kind word source ≡ Ok item → IsPlain net kind item
+unfolding delay_of
+delay_of_good net kind word source item h =
+    let r = bind_ok (number_at word) (λ init. demand (kind_holds kind init) OutOfRange >>= λ _. Ok (Delay init source)) item h in
+    let d = bind_ok (demand (kind_holds kind r.0) OutOfRange) (λ _. Ok (Delay r.0 source)) item r.2 in
+    let good : IsPlain net kind (Delay r.0 source) = record { good = record { built = refl; earlier = refl; agreed = refl; in_range = demand_ok (kind_holds kind r.0) OutOfRange d.0 d.1 }; plain = refl } in
+    subst (λ x. IsPlain net kind x) (same_ok (Delay r.0 source) item d.2) good
+
+-- from the front on
+delay_tests : (net : NetData) (name : List ℕ) (form new type known : Result (Unit {0}) NetKind) (source : Result WireNo NetKind) (reached : Result (Unit {0}) NetKind) (kind : Result Kind NetKind) (item : Kind → WireNo → Result Item NetKind) (room : Result (Unit {0}) NetKind) (content : Content)
+    → ((done : Unit {0}) → new ≡ Ok done → IsFresh net.wires name) → ((k : Kind) → kind ≡ Ok k → is_good_kind k ≡ true) → ((k : Kind) (s : WireNo) (x : Item) → item k s ≡ Ok x → IsPlain net k x) → ((done : Unit {0}) → room ≡ Ok done → nat_lt (length net.wires) 512 ≡ true)
+    → (form >>= λ _. new >>= λ _. type >>= λ _. known >>= λ _. source >>= λ s. reached >>= λ _. kind >>= λ k. item k s >>= λ x. room >>= λ _. Ok (record { kind = k; item = x })) ≡ Ok content → IsGood net name content
+delay_tests net name (Err e) new type known source reached kind item room content f g i r h = absurd (cc)
+delay_tests net name (Ok _) (Err e) type known source reached kind item room content f g i r h = absurd (cc)
+delay_tests net name (Ok _) (Ok new) (Err e) known source reached kind item room content f g i r h = absurd (cc)
+delay_tests net name (Ok _) (Ok new) (Ok _) (Err e) source reached kind item room content f g i r h = absurd (cc)
+delay_tests net name (Ok _) (Ok new) (Ok _) (Ok _) (Err e) reached kind item room content f g i r h = absurd (cc)
+delay_tests net name (Ok _) (Ok new) (Ok _) (Ok _) (Ok s) (Err e) kind item room content f g i r h = absurd (cc)
+delay_tests net name (Ok _) (Ok new) (Ok _) (Ok _) (Ok s) (Ok _) (Err e) item room content f g i r h = absurd (cc)
+delay_tests net name (Ok _) (Ok new) (Ok _) (Ok _) (Ok s) (Ok _) (Ok kind) item room content f g i r h =
+    content_end net name room kind (item kind s) content (f new refl) (g kind refl) (λ x e. i kind s x e) r h
+
+-- a delay gives a good wire
+delay_good : (lines : List (List ℕ)) (net : NetData) (words : List (List ℕ)) (content : Content) → delay_line lines net.wires words ≡ Ok content → IsGood net (nth words 1) content
+unfolding delay_line
+delay_good lines net words content h =
+    delay_tests net (nth words 1) (demand ((length words == 6) && bytes_eq (nth words 4) (codes "=")) BadLine) (fresh net.wires (nth words 1)) (demand (is_type (nth words 2)) BadType) (demand (axis_passes (is_known lines net.wires) (nth words 2)) UnknownName) (source_named lines (nth words 5)) (demand (axis_passes (is_wire net.wires) (nth words 2)) LaterWire) (delay_kind (nth words 2)) (λ k s. delay_of k (nth words 3) s) (has_place net.wires) content
+    (λ done e. fresh_ok net.wires (nth words 1) done e) (λ k e. kind_good (nth words 2) k (ok_or_ok (kind_of (nth words 2)) TypeDiffers k e)) (λ k s x e. delay_of_good net k (nth words 3) s x e) (place_ok net.wires) h
 
 -- ---- a line that isn't built
 
@@ -488,8 +541,7 @@ line_good TableLine lines net words content h =
 line_good MapLine lines net words content h =
     unbuilt_good (nat_le 5 (length words)) (is_narrow (ty_of (nth words 2))) net words content h
 line_good WireLine lines net words content h = wire_good lines net words content h
-line_good DelayLine lines net words content h =
-    unbuilt_good ((length words == 6) && bytes_eq (nth words 4) (codes "=")) (is_type (nth words 2)) net words content h
+line_good DelayLine lines net words content h = delay_good lines net words content h
 
 -- the line has one
 by_keyword : (found : Result Keyword NetKind) (lines : List (List ℕ)) (net : NetData) (words : List (List ℕ)) (content : Content) → (found >>= λ keyword. line_of keyword lines net words) ≡ Ok content → IsGood net (nth words 1) content

@@ -9,13 +9,14 @@ use Rattle.text_words.proofs.Held.{held_least, held_most, held_between, tested_h
 use Rattle.net_model.specs.declared.network.NetKind.{NetKind}
 use Rattle.net_model.specs.declared.network.NetKind.TheVariants.{BadNumber, OutOfRange}
 use Rattle.net_model.specs.declared.wires.Kind.{Kind}
+use Rattle.net_model.specs.declared.wires.WireNo.{WireNo}
 use Rattle.net_model.specs.declared.wires.Item.{Item}
-use Rattle.net_model.specs.declared.wires.Item.TheVariants.{Input, Const}
+use Rattle.net_model.specs.declared.wires.Item.TheVariants.{Input, Const, Delay}
 use Rattle.net_model.specs.declared.signatures.Range.{Range}
 use Rattle.net_model.specs.BlockForms.{in_range as is_in_range}
 use Rattle.net_model.specs.Validity.{kind_holds}
 use Rattle.net_model.proofs.HeldKinds.{kind_holds-held, held_in_kind}
-use Rattle.net_text.specs.Forms.{in_range, input_of, const_of, number_in}
+use Rattle.net_text.specs.Forms.{in_range, input_of, const_of, delay_of, number_in}
 
 -- ---- an input
 
@@ -51,6 +52,14 @@ pub const_of_held : (kind : Kind) (word : List ℕ) → const_of kind word ≡ (
 unfolding const_of
 const_of_held kind word =
     sym (tested_held (kind_holds kind) (λ value. Const value) BadNumber OutOfRange (number_of word) (kind_holds-held kind) (held_in_kind kind))
+
+-- ---- a delay
+
+-- a delay's first value read from what is held
+pub delay_of_held : (kind : Kind) (word : List ℕ) (source : WireNo) → delay_of kind word source ≡ (ok_or (option_map held (number_of word)) BadNumber >>= λ init. in_range kind (Delay init source))
+unfolding delay_of
+delay_of_held kind word source =
+    sym (tested_held (kind_holds kind) (λ init. Delay init source) BadNumber OutOfRange (number_of word) (kind_holds-held kind) (held_in_kind kind))
 
 -- ---- a number of a range
 

@@ -1,5 +1,6 @@
 mod HeldNumbers
 mod LineSteps
+mod LinesCounted
 pub mod GoodLines
 mod NamePlaces
 mod NamesKept

@@ -10,8 +10,7 @@ use Rattle.std.proofs.lemmas.Slice.Eq.{bytes_eq-Decides}
 use Rattle.text_words.specs.Lines.{nth, words_of}
 use Rattle.net_model.specs.declared.wires.Wire.{Wire}
 use Rattle.net_model.specs.Wires.{place_of}
-use Rattle.net_text.specs.Forms.{defines, is_defined, is_defining}
-use Rattle.net_text.specs.Names.{with_name, with_defined, names_below, names_of, wire_names, AreFirst}
+use Rattle.net_text.specs.Names.{defines, is_defined, is_defining, with_name, with_defined, names_below, names_of, wire_names, AreFirst}
 
 -- ---- whether a name is there
 

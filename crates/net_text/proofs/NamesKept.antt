@@ -16,8 +16,8 @@ use Rattle.net_model.specs.declared.wires.Wire.{Wire}
 use Rattle.net_model.specs.Wires.{NetData, with_out, with_wire}
 use Rattle.net_text.specs.declared.keyword.Keyword.{Keyword}
 use Rattle.net_text.specs.declared.line_forms.Content.{Content}
-use Rattle.net_text.specs.Forms.{keyword_of, is_defining, is_wire, line_of, out_line, defining_line}
-use Rattle.net_text.specs.Names.{with_name, with_defined, names_below, names_of, wire_names}
+use Rattle.net_text.specs.Forms.{is_wire, line_of, out_line, defining_line}
+use Rattle.net_text.specs.Names.{keyword_of, is_defining, with_name, with_defined, names_below, names_of, wire_names}
 use Rattle.net_text.specs.Text.{after_out, after_definition, after_line, net_reader}
 use Rattle.net_text.proofs.GoodLines.{is_wire-named, definition_good, first_of_both}
 use Rattle.net_text.proofs.NamePlaces.{list_any-map}
@@ -57,7 +57,7 @@ names_below_head keyword names (line ∷ rest) above head other h =
 -- ---- below the head
 
 -- no wire so far has a name exactly where it isn't among their names
-fresh_name : (wires : List Wire) (name : List ℕ) → is_wire wires name ≡ false → list_any (bytes_eq name) (wire_names wires) ≡ false
+pub fresh_name : (wires : List Wire) (name : List ℕ) → is_wire wires name ≡ false → list_any (bytes_eq name) (wire_names wires) ≡ false
 fresh_name wires name fresh =
     list_any-map (λ w. w.name) (bytes_eq name) wires
     ∙ ap (λ test. list_any test wires) (λ j w. nat_list_eq_equiv.symm name w.name j)

@@ -19,6 +19,7 @@ use Rattle.net_model.specs.Families.{is_built, block_of}
 use Rattle.net_model.specs.BlockForms.{in_range, in_ranges, signature_in}
 use Rattle.net_model.specs.Wires.{NetData, wire_at}
 use Rattle.net_model.specs.Validity.{is_good_kind, is_of_sort, takes_form, wires_earlier, wires_agree, numbers_fit, are_distinct}
+use Rattle.net_model.specs.Faults.{has_room}
 use Rattle.net_model.proofs.SideBySide.{same_lengths}
 use Rattle.net_model.proofs.FamilyFacts.{is_short, ranges_are_short, reads_some}
 use Rattle.net_text.specs.Forms.{is_known, fresh, are_known, wire_named, wires_named, are_numbers, number_in, numbers_in, agreed, given_line, wire_line}
@@ -165,16 +166,16 @@ given_printed lines net i name kind form distinct within new good is =
     let fits = agree_so_far all i sig.sorts form.wires is.earlier is.agree in
     let are = numbers_are sig.ranges form.numbers (5 + length sig.sorts) words [] short is.fits behind in
     let numbers = numbers_printed sig.ranges form.numbers (5 + length sig.sorts) words [] short is.fits behind in
-    rw (count, is_position-kind_word kind, known, read, kind_of-kind_word kind good, is.taken, fits, is.gives, are, numbers, new.room)
+    rw (count, is_position-kind_word kind, known, read, kind_of-kind_word kind good, is.taken, fits, is.gives, are, numbers)
 
 pub form_printed : (lines : List (List ℕ)) (net : NetData) (i : ℕ) (name : List ℕ) (kind : Kind) (form : Form) → are_distinct (map (λ w. w.name) net.wires) ≡ true → i ≤ length net.wires
-    → IsNew (take i net.wires) name → is_good_kind kind ≡ true → IsGoodForm net i kind form
+    → IsNew (take i net.wires) name → has_room (take i net.wires) (OfBlock (block_of form)) ≡ true → is_good_kind kind ≡ true → IsGoodForm net i kind form
     → wire_line lines (first_wires net i) (block_line net.wires name kind form) ≡ Ok (record { kind = kind; item = OfBlock (block_of form) })
 unfolding wire_line fresh
-form_printed lines net i name kind form distinct within new good is =
+form_printed lines net i name kind form distinct within new room good is =
     let words = block_line net.wires name kind form in
     let found = routine_at-routine_name form.routine form.types is.built is.taken in
     let long : leb 6 (length words) ≡ true = le-leb 6 (length words) (let n = length_given net.wires form.wires form.numbers in
     let sorts = same_lengths (λ sort w. is_of_sort sort (wire_at net.wires w.0).kind) (signature_in form).sorts form.wires is.agree in
     let some = reads_some form.routine form.types is.built in omega arith) in
-    rw (long, new.named, new.fresh, kind_of-kind_word kind good, found, given_printed lines net i name kind form distinct within new good is)
+    rw (long, new.named, new.fresh, kind_of-kind_word kind good, found, given_printed lines net i name kind form distinct within new good is, room)

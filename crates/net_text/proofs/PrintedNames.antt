@@ -1,5 +1,7 @@
 -- Among wires of distinct names each name is found again: it is new where its wire is printed, and known below.
-use Rattle.std.proofs.Common.{◌≡◌, ℕ, zero, suc, ◌≤◌, ◌<◌, Bool, true, false, cond, not, eqb, ltb, List, [], ◌∷◌, map, length, take, get_or, bytes_eq, Some, None, is_some, refl, sym, ap, ◌∙◌, arith, lt-ltb}
+use Rattle.std.proofs.Common.{◌≡◌, ℕ, zero, suc, ◌≤◌, ◌<◌, Bool, true, false, cond, not, eqb, ltb, List, [], ◌∷◌, map, length, take, get_or, bytes_eq, Some, None, is_some, refl, sym, ap, ◌∙◌, arith, lt-ltb, take_all}
+use Rattle.std.specs.Prelude.{position}
+use Rattle.std.specs.Cmp.Lexicographic.{nat_list_eq_equiv}
 use Rattle.std.specs.List.{list_any, position_or_len}
 use Rattle.std.proofs.lemmas.Bool.{and_parts, or_parts, not_from_false, not_from_true}
 use Rattle.std.proofs.lemmas.Bool.Decides.{nat_tests}
@@ -11,7 +13,9 @@ use Rattle.net_model.specs.declared.wires.WireNo.{WireNo}
 use Rattle.net_model.specs.declared.wires.Wire.{Wire}
 use Rattle.net_model.specs.Wires.{no_wire, wire_at, place_of}
 use Rattle.net_model.specs.Validity.{are_distinct, are_distinct_outs, is_among}
+use Rattle.net_text.specs.Names.{names_of, number_named, wire_names}
 use Rattle.net_text.specs.Forms.{is_wire}
+use Rattle.net_text.proofs.NamePlaces.{position-map}
 
 from_not : (b : Bool) → not b ≡ true → b ≡ false
 from_not true h = sym h
@@ -57,6 +61,21 @@ place_of-wire_at wires i a distinct before within =
     prefix_len_is (λ w. not (bytes_eq w.name name)) (take i wires) a no_wire (omega arith) (λ k earlier. others_before wires i a k distinct (omega arith) earlier (omega arith)) (λ inside. here) in
     let found : ltb a (length (take i wires)) ≡ true = lt-ltb a (length (take i wires)) (omega arith) in
     ap (λ p. cond (ltb p (length (take i wires))) (Some p) None) place ∙ ap (λ b. cond b (Some a) None) found
+
+-- each wire is found among all
+pub place_of-all : (wires : List Wire) (a : ℕ) → are_distinct (map (λ w. w.name) wires) ≡ true → a < length wires → place_of wires (wire_at wires a).name ≡ Some a
+place_of-all wires a distinct within =
+    sym (ap (λ l. place_of l (wire_at wires a).name) (take_all (length wires) wires (omega arith))) ∙ place_of-wire_at wires (length wires) a distinct within (omega arith)
+
+-- and has that number among the names of a text that defines the wires' names
+pub number_named-wire : (lines : List (List ℕ)) (wires : List Wire) (a : ℕ) → names_of lines ≡ wire_names wires → are_distinct (map (λ w. w.name) wires) ≡ true → a < length wires → number_named lines (wire_at wires a).name ≡ Some a
+unfolding place_of
+number_named-wire lines wires a names distinct within =
+    let name = (wire_at wires a).name in
+    ap (position (bytes_eq name)) names
+    ∙ sym (position-map (λ w. w.name) (bytes_eq name) wires)
+    ∙ ap (λ test. position test wires) (λ j w. nat_list_eq_equiv.symm name w.name j)
+    ∙ place_of-all wires a distinct within
 
 -- it is known
 pub is_wire-earlier : (wires : List Wire) (i a : ℕ) → are_distinct (map (λ w. w.name) wires) ≡ true → a < i → i ≤ length wires → is_wire (take i wires) (wire_at wires a).name ≡ true

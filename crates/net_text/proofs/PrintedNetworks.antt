@@ -1,7 +1,8 @@
 -- Every line of a valid network's text has good words, and is read again; so is the text.
-use Rattle.std.proofs.Common.{◌≡◌, ℕ, suc, ◌<◌, Bool, true, ◌&&◌, nat_lt, int_le, List, [], ◌∷◌, map, length, get_or, ℤ, Ok, refl, ◌∙◌, arith, ltb-true}
+use Rattle.std.proofs.Common.{◌≡◌, ℕ, zero, suc, ◌+◌, ◌<◌, ◌≤◌, Bool, true, ◌&&◌, nat_lt, int_le, List, [], ◌∷◌, map, length, take, get_or, ℤ, Ok, refl, ◌∙◌, arith, ltb-true, lt-ltb, le-leb}
 use Rattle.std.specs.List.{list_all}
 use Rattle.std.proofs.lemmas.Bool.{and_parts, and_from}
+use Rattle.std.proofs.lemmas.List.{length-take-le}
 use Rattle.std.proofs.lemmas.List.Folds.{list_all-append}
 use Rattle.std.proofs.lemmas.List.Sums.{AllPass-from_list_all}
 use Rattle.text_words.specs.Names.{is_name}
@@ -9,15 +10,16 @@ use Rattle.text_words.proofs.PrintedWords.{is_word, are_words, is_word-name, is_
 use Rattle.net_model.specs.declared.wires.WireNo.{WireNo}
 use Rattle.net_model.specs.declared.wires.Kind.{Kind}
 use Rattle.net_model.specs.declared.wires.Item.{Item}
-use Rattle.net_model.specs.declared.wires.Item.TheVariants.{Input, Const, Block as OfBlock}
+use Rattle.net_model.specs.declared.wires.Item.TheVariants.{Input, Const, Delay, Block as OfBlock}
 use Rattle.net_model.specs.declared.wires.Wire.{Wire}
 use Rattle.net_model.specs.declared.signatures.Range.{Range}
 use Rattle.net_model.specs.declared.block_forms.Form.{Form}
 use Rattle.net_model.specs.BlockForms.{form_of, signature_in, in_range, in_ranges}
-use Rattle.net_model.specs.Wires.{NetData, no_wire, wire_at}
-use Rattle.net_model.specs.Validity.{is_good_kind, kind_holds, wires_earlier, is_built_item, item_reads_earlier, item_agrees, item_in_range, is_good_wire, IsValid}
+use Rattle.net_model.specs.Wires.{NetData, no_wire, wire_at, window_of, window_sum}
+use Rattle.net_model.specs.Faults.{has_room}
+use Rattle.net_model.specs.Validity.{is_good_kind, kind_holds, wires_earlier, is_built_item, item_reads_earlier, item_agrees, item_in_range, same_kind, item_is_sourced, is_sourced, is_good_wire, IsValid}
 use Rattle.net_model.proofs.FamilyFacts.{is_short, ranges_are_short}
-use Rattle.net_model.proofs.ValidityFacts.{conditions, length-valid, good_wire-valid}
+use Rattle.net_model.proofs.ValidityFacts.{conditions, length-valid, rows-valid, good_wire-valid}
 use Rattle.net_text.specs.Text.{network_of}
 use Rattle.net_text.specs.Printing.{argument_words, number_words, form_words, wire_words, out_words, text_of}
 use Rattle.net_text.proofs.PrintedKinds.{is_word-kind_word}
@@ -52,15 +54,19 @@ form_words_good net i kind form named is =
 
 -- ---- the words of a line
 
-wire_words_good : (net : NetData) (i : ℕ) (name : List ℕ) (kind : Kind) (item : Item) → ((a : ℕ) → a < i → is_name (wire_at net.wires a).name ≡ true) → is_name name ≡ true → IsPrintable net i kind item
+wire_words_good : (net : NetData) (i : ℕ) (name : List ℕ) (kind : Kind) (item : Item) → i ≤ length net.wires → ((a : ℕ) → a < length net.wires → is_name (wire_at net.wires a).name ≡ true) → is_name name ≡ true → IsPrintable net i kind item
     → are_words (wire_words net.wires (record { name = name; kind = kind; item = item })) ≡ true
-wire_words_good net i name kind (Input lo hi) named here ok =
+wire_words_good net i name kind (Input lo hi) within named here ok =
     let ends = all_three (kind_holds kind lo) (kind_holds kind hi) (int_le lo hi) ok.in_range in
     and_from _ _ (is_word-name name here) (and_from _ _ (is_word-kind_word kind ok.kind_good) (and_from _ _ (is_word-signed_decimal lo (kind_holds-short kind lo ends.0)) (and_from _ _ (is_word-signed_decimal hi (kind_holds-short kind hi ends.1)) refl)))
-wire_words_good net i name kind (Const value) named here ok =
+wire_words_good net i name kind (Const value) within named here ok =
     and_from _ _ (is_word-name name here) (and_from _ _ (is_word-kind_word kind ok.kind_good) (and_from _ _ (is_word-signed_decimal value (kind_holds-short kind value ok.in_range)) refl))
-wire_words_good net i name kind (OfBlock b) named here ok =
-    let form = form_words_good net i kind (form_of b) named (good_form net i kind b ok.built ok.earlier ok.agree ok.in_range) in
+wire_words_good net i name kind (Delay init source) within named here ok =
+    let there = (and_parts (nat_lt source.0 (length net.wires)) (same_kind kind (wire_at net.wires source.0).kind) ok.sourced).0 in
+    let from = and_from _ _ (is_word-name (wire_at net.wires source.0).name (named source.0 (ltb-true source.0 (length net.wires) there))) refl in
+    and_from _ _ (is_word-name name here) (and_from _ _ (is_word-kind_word kind ok.kind_good) (and_from _ _ (is_word-signed_decimal init (kind_holds-short kind init ok.in_range)) from))
+wire_words_good net i name kind (OfBlock b) within named here ok =
+    let form = form_words_good net i kind (form_of b) (λ a lt. named a (omega arith)) (good_form net i kind b ok.built ok.earlier ok.agree ok.in_range) in
     and_from _ _ (is_word-name name here) (and_from _ _ (is_word-kind_word kind ok.kind_good) form)
 
 -- ---- wires of a valid network
@@ -85,24 +91,38 @@ good_wire net i w good =
     let p = all_six (is_name w.name) (is_built_item w.item) (item_reads_earlier i w.item) (item_agrees net w.kind w.item) (is_good_kind w.kind) (item_in_range w.kind w.item) good in
     record { named = p.0; built = p.1; earlier = p.2; agree = p.3; kind = p.4; range = p.5 }
 
-printable : {net : NetData} {i : ℕ} {w : Wire} → IsGoodWire net i w → IsPrintable net i w.kind w.item
-printable g = record { kind_good = g.kind; built = g.built; earlier = g.earlier; agree = g.agree; in_range = g.range }
+-- the averages of the wires up to one are among those of all
+rows_within : (wires : List Wire) (i : ℕ) → i < length wires → window_sum (take i wires) + window_of (wire_at wires i).item ≤ window_sum wires
+rows_within [] i within = absurd (omega arith)
+rows_within (w ∷ wires) zero within = omega arith
+rows_within (w ∷ wires) (suc i) within = let e = rows_within wires i (omega arith) in omega arith
+
+room_valid : (net : NetData) (i : ℕ) → IsValid net → i < length net.wires → has_room (take i net.wires) (wire_at net.wires i).item ≡ true
+room_valid net i valid within =
+    let long = length-take-le i net.wires (omega arith) in
+    let few = length-valid net valid in
+    let rows = rows-valid net valid in
+    let some = rows_within net.wires i within in
+    and_from _ _ (lt-ltb (length (take i net.wires)) 512 (omega arith)) (le-leb (window_sum (take i net.wires) + window_of (wire_at net.wires i).item) 65536 (omega arith))
+
+printable : {net : NetData} {i : ℕ} {w : Wire} → IsGoodWire net i w → item_is_sourced net.wires w.kind w.item ≡ true → has_room (take i net.wires) w.item ≡ true → IsPrintable net i w.kind w.item
+printable g sourced room = record { kind_good = g.kind; built = g.built; earlier = g.earlier; agree = g.agree; in_range = g.range; sourced = sourced; room = room }
 
 wires_readable : (net : NetData) → IsValid net → AreReadable net
 wires_readable net valid =
     let wires = net.wires in
     let good : (i : ℕ) → i < length wires → IsGoodWire net i (wire_at wires i) = λ i within. good_wire net i (wire_at wires i) (good_wire-valid net i valid within) in
+    let sourced : (i : ℕ) → i < length wires → is_sourced wires (wire_at wires i) ≡ true = λ i within. AllPass-from_list_all (is_sourced wires) wires (conditions net valid).sourced i no_wire within in
+    let print : (i : ℕ) → i < length wires → IsPrintable net i (wire_at wires i).kind (wire_at wires i).item = λ i within. printable (good i within) (sourced i within) (room_valid net i valid within) in
     record {
       few = length-valid net valid;
       distinct = (conditions net valid).distinct;
       named = λ i within. (good i within).named;
-      printable = λ i within.
-          let g = good i within in
-          printable g;
+      printable = print;
       words = λ i within.
           let g = good i within in
           let w = wire_at wires i in
-          wire_words_good net i w.name w.kind w.item (λ a lt. (good a (omega arith)).named) g.named (printable g);
+          wire_words_good net i w.name w.kind w.item (omega arith) (λ a lt. (good a lt).named) g.named (print i within);
     }
 
 -- ---- outputs
@@ -134,8 +154,8 @@ readable net valid =
     record {
       wires = wires;
       outs = outs;
-      has_input = all.has_input;
-      has_output = all.has_output;
+      sourced = all.sourced;
+      ends = and_from _ _ all.has_input all.has_output;
       words = list_all-append are_words (map (wire_words net.wires) net.wires) (map (out_words net.wires) net.outs)
           ∙ and_from _ _ (map_words_good (wire_words net.wires) net.wires no_wire wires.words) (map_words_good (out_words net.wires) net.outs no_out outs.words);
     }

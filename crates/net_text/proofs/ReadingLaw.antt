@@ -1,6 +1,8 @@
 -- Whatever a text says is valid.
 use Rattle.std.proofs.Common.{◌≡◌, ℕ, suc, ◌+◌, ◌<◌, ◌≤◌, Bool, true, false, not, ◌&&◌, ◌||◌, ◌==◌, cond, nat_le, nat_lt, List, [], ◌∷◌, ◌++◌, map, length, codes, bytes_eq, refl, sym, ap, ap₂, subst, ◌∙◌, Result, Ok, Err, arith, length-append, append-nil, zero-add, add-zero}
-use Rattle.std.specs.List.{list_any, list_all}
+use Rattle.std.specs.Prelude.{Option, Some, None}
+use Rattle.std.specs.List.{list_any, list_all, position_from}
+use Rattle.std.proofs.lemmas.Iterator.Adapters.{position_from-zero}
 use Rattle.std.proofs.Math.ListN.{get_or-append}
 use Rattle.std.proofs.lemmas.List.Folds.{list_any-append, list_all-append}
 use Rattle.std.proofs.lemmas.List.{map-append}
@@ -9,22 +11,26 @@ use Rattle.std.proofs.lemmas.Bool.Decides.{nat_tests}
 use Rattle.text_words.specs.Names.{is_name}
 use Rattle.text_words.specs.Lines.{lines_of, nth}
 use Rattle.net_model.specs.declared.network.NetKind.{NetKind}
+use Rattle.net_model.specs.declared.network.NetKind.TheVariants.{Missing}
+use Rattle.net_text.specs.declared.reader.NetFault.{NetFault}
 use Rattle.net_model.specs.declared.wires.WireNo.{WireNo}
 use Rattle.net_model.specs.declared.wires.Kind.{Kind}
 use Rattle.net_model.specs.declared.wires.Item.{Item}
-use Rattle.net_model.specs.declared.wires.Item.TheVariants.{Input, Const, Block as OfBlock}
+use Rattle.net_model.specs.declared.wires.Item.TheVariants.{Input, Const, Delay, Block as OfBlock}
 use Rattle.net_model.specs.declared.wires.Wire.{Wire}
 use Rattle.net_text.specs.declared.line_forms.Content.{Content}
-use Rattle.net_model.specs.Wires.{NetData, no_net, with_wire, with_out, no_wire, wire_at}
+use Rattle.net_model.specs.Wires.{NetData, no_net, with_wire, with_out, no_wire, wire_at, window_of, window_sum}
+use Rattle.net_model.specs.Faults.{first_unsourced}
 use Rattle.net_model.specs.declared.signatures.Sort.{Sort}
 use Rattle.net_model.specs.BlockForms.{form_of, signature_in, repeats_first}
-use Rattle.net_model.specs.Validity.{is_of_sort, takes_form, wires_earlier, wires_agree, is_built_item, item_reads_earlier, item_agrees, item_in_range, is_good_wire, is_good_kind, are_good_from, are_distinct, is_among, are_distinct_outs, has_ends, is_valid, IsValid}
-use Rattle.text_words.specs.Steps.{◌>>=◌}
+use Rattle.net_model.specs.Validity.{is_of_sort, takes_form, wires_earlier, wires_agree, is_built_item, item_reads_earlier, item_agrees, item_in_range, is_sourced, is_good_wire, is_good_kind, are_good_from, are_distinct, is_among, are_distinct_outs, has_ends, is_valid, IsValid}
+use Rattle.text_words.specs.Steps.{◌>>=◌, demand}
+use Rattle.text_words.specs.Readers.{said_by}
 use Rattle.text_words.proofs.ReaderSteps.{kept_by_text}
 use Rattle.net_text.specs.Forms.{out_line, defining_line}
-use Rattle.net_text.specs.Text.{after_out, after_definition, after_line, net_reader, network_of}
+use Rattle.net_text.specs.Text.{after_out, after_definition, after_line, net_reader, unsourced_at, sources_tested, with_ends, tested_behind, network_of}
 use Rattle.net_text.proofs.NamePlaces.{list_any-map}
-use Rattle.net_text.proofs.GoodLines.{IsGood, IsGoodOut, is_wire-named, definition_good, output_line_good, true_if_both, first_of_both, second_of_both}
+use Rattle.net_text.proofs.GoodLines.{IsGood, IsGoodOut, is_wire-named, definition_good, output_line_good, true_if_both, first_of_both, second_of_both, demand_ok, bind_ok, same_ok}
 
 -- ---- one more wire leaves the wires before it good
 
@@ -52,6 +58,7 @@ wires_agree-append net all on i (s ∷ sorts) (w ∷ wires) below h =
 item_agrees-append : (net all : NetData) (on : GoesOn net all) (i : ℕ) (kind : Kind) (item : Item) → item_reads_earlier i item ≡ true → i ≤ length net.wires → item_agrees all kind item ≡ item_agrees net kind item
 item_agrees-append net all on i kind (Input lo hi) below h = refl
 item_agrees-append net all on i kind (Const value) below h = refl
+item_agrees-append net all on i kind (Delay init source) below h = refl
 item_agrees-append net all on i kind (OfBlock b) below h =
     let form = form_of b in
     ap (λ t. (takes_form form && t && is_of_sort (signature_in form).gives kind) && repeats_first b) (wires_agree-append net all on i (signature_in form).sorts form.wires below h)
@@ -141,11 +148,17 @@ outs_within n m [] le h = refl
 outs_within n m (o ∷ outs) le h =
     true_if_both _ _ (lt_more o.0 n m (first_of_both (nat_lt o.0 n) (list_all (λ o. nat_lt o.0 n) outs) h) le) (outs_within n m outs le (second_of_both (nat_lt o.0 n) (list_all (λ o. nat_lt o.0 n) outs) h))
 
+-- the averages of one more wire go over its rows more
+window_sum-last : (wires : List Wire) (w : Wire) → window_sum (wires ++ w ∷ []) ≡ window_sum wires + window_of w.item
+window_sum-last [] w = omega arith
+window_sum-last (v ∷ wires) w = let e = window_sum-last wires w in omega arith
+
 -- ---- the network so far
 
--- all that a valid network keeps but its ends
+-- all that a valid network keeps but the sources of its delays and its ends
 record IsSound (net : NetData) : Type 0 where
   few : nat_le (length net.wires) 512 ≡ true
+  rows : nat_le (window_sum net.wires) 65536 ≡ true
   distinct : are_distinct (map (λ w. w.name) net.wires) ≡ true
   good : are_good_from net 0 net.wires ≡ true
   within : list_all (λ o. nat_lt o.0 (length net.wires)) net.outs ≡ true
@@ -153,7 +166,7 @@ record IsSound (net : NetData) : Type 0 where
 
 -- nothing is sound
 start_sound : IsSound no_net
-start_sound = record { few = refl; distinct = refl; good = refl; within = refl; once = refl }
+start_sound = record { few = refl; rows = refl; distinct = refl; good = refl; within = refl; once = refl }
 
 -- one more wire
 abbrev more_wires : NetData → List ℕ → Content → NetData
@@ -171,6 +184,7 @@ with_wire_sound net name content s g =
     let last : is_good_wire (with_wire net w) (0 + length wires) w ≡ true = is_good_wire-append net (with_wire net w) on (0 + length wires) w (omega arith) ∙ ap (λ k. is_good_wire net k w) (zero-add (length wires)) ∙ here in
     record {
       few = few_more (length wires) (length (wires ++ w ∷ [])) g.room one_more;
+      rows = ap (λ n. nat_le n 65536) (window_sum-last wires w) ∙ g.rows s.rows;
       distinct = ap are_distinct (map-append (λ w. w.name) wires (w ∷ [])) ∙ are_distinct-last (map (λ w. w.name) wires) name s.distinct new;
       good = are_good_from-last (with_wire net w) 0 wires w ∙ true_if_both _ _ (are_good_from-append net (with_wire net w) on 0 wires (omega arith) ∙ s.good) last;
       within = outs_within (length wires) (length (wires ++ w ∷ [])) net.outs (omega (arith, one_more)) s.within;
@@ -183,6 +197,7 @@ with_out_sound net out s g =
     let on : GoesOn net (with_out net out) = record { more = []; wires = sym (append-nil net.wires) } in
     record {
       few = s.few;
+      rows = s.rows;
       distinct = s.distinct;
       good = are_good_from-append net (with_out net out) on 0 net.wires (omega arith) ∙ s.good;
       within = list_all-append (λ o. nat_lt o.0 (length net.wires)) net.outs (out ∷ []) ∙ true_if_both _ _ s.within (true_if_both _ _ g.within refl);
@@ -216,17 +231,46 @@ unfolding after_line after_out after_definition
 after_line_sound lines net words next s h =
     line_step next (bytes_eq (nth words 0) (codes "out")) (after_out lines net words) (after_definition lines net words) (out_step net (out_line lines net.wires net.outs words) next s (output_line_good lines net.wires net.outs words)) (definition_step net (nth words 1) (defining_line lines net words) next s (definition_good lines net words)) h
 
--- ---- the whole
+-- ---- the tests behind all lines
 
--- what is sound and has ends is valid
-sound_valid : (net : NetData) → IsSound net → has_ends net.wires net.outs ≡ true → IsValid net
+-- where no delay is unsourced, each wire is sourced
+none_unsourced : (all wires : List Wire) (i : ℕ) → position_from (λ w. not (is_sourced all w)) i wires ≡ None → list_all (is_sourced all) wires ≡ true
+none_unsourced all [] i none = refl
+none_unsourced all (w ∷ wires) i none = by (is_sourced all w) (position_from (λ w. not (is_sourced all w)) (i + 1) wires) (none_unsourced all wires (i + 1)) none
+  where
+    by : (sourced : Bool) (later : Option ℕ) → (later ≡ None → list_all (is_sourced all) wires ≡ true) → cond (not sourced) (Some i) later ≡ None → (sourced && list_all (is_sourced all) wires) ≡ true
+    by true later rest none = rest none
+    by false later rest none = absurd (cc)
+
+no_fault_told : (lines : List (List ℕ)) (wires : List Wire) (found : Option ℕ) (done : Unit {0}) → unsourced_at lines wires found ≡ Ok done → found ≡ None
+no_fault_told lines wires None done h = refl
+no_fault_told lines wires (Some delay) done h = absurd (cc)
+
+sources_good : (lines : List (List ℕ)) (wires : List Wire) (done : Unit {0}) → sources_tested lines wires ≡ Ok done → list_all (is_sourced wires) wires ≡ true
+sources_good lines wires done h =
+    none_unsourced wires wires 0 (sym (position_from-zero (λ w. not (is_sourced wires w)) wires) ∙ no_fault_told lines wires (first_unsourced wires) done h)
+
+-- what is sound, with delays that are sourced, and has ends is valid
+sound_valid : (net : NetData) → IsSound net → list_all (is_sourced net.wires) net.wires ≡ true → has_ends net.wires net.outs ≡ true → IsValid net
 unfolding is_valid
-sound_valid net s e =
-    true_if_both _ _ (true_if_both _ _ (true_if_both _ _ (true_if_both _ _ (true_if_both _ _ s.few s.distinct) s.good) s.within) s.once) e
+sound_valid net s sourced e =
+    true_if_both _ _ (true_if_both _ _ (true_if_both _ _ (true_if_both _ _ (true_if_both _ _ (true_if_both _ _ (true_if_both _ _ s.few s.rows) s.distinct) s.good) sourced) s.within) s.once) e
+
+tested_valid : (lines : List (List ℕ)) (said net : NetData) → IsSound said → tested_behind lines said ≡ Ok net → IsValid net
+unfolding tested_behind
+tested_valid lines said net s h =
+    let fault : NetFault = record { line = length lines; kind = Missing } in
+    let sources = bind_ok (sources_tested lines said.wires) (λ _. with_ends lines said) net h in
+    let ends = bind_ok (demand (has_ends said.wires said.outs) fault) (λ _. Ok said) net sources.2 in
+    subst (λ n. IsValid n) (same_ok said net ends.2) (sound_valid said s (sources_good lines said.wires sources.0 sources.1) (demand_ok (has_ends said.wires said.outs) fault ends.0 ends.1))
+
+-- ---- the whole
 
 -- the law
 pub network_of_valid : (text : List ℕ) (net : NetData) → network_of text ≡ Ok net → IsValid net
 unfolding network_of
 network_of_valid text net h =
-    let kept = kept_by_text (net_reader (lines_of text)) IsSound text net (λ before words next s made. after_line_sound (lines_of text) before words next s made) start_sound h in
-    sound_valid net kept.0 kept.1
+    let lines = lines_of text in
+    let said = bind_ok (said_by (net_reader lines) text) (λ said. tested_behind lines said) net h in
+    let kept = kept_by_text (net_reader lines) IsSound text said.0 (λ before words next s made. after_line_sound lines before words next s made) start_sound said.1 in
+    tested_valid lines said.0 net kept.0 said.2

@@ -4,7 +4,7 @@ use Rattle.std.proofs.Common.{◌≡◌, ℕ, List, [], ◌∷◌, ◌++◌, cod
 use Rattle.text_words.specs.Lines.{lines_of, lines_from, words_of}
 use Rattle.text_words.specs.Names.{is_name}
 use Rattle.text_words.specs.Numbers.{number_of}
-use Rattle.fx_core.specs.declared.word_type.Ty.TheVariants.{S16, S32}
+use Rattle.fx_core.specs.declared.word_type.Ty.TheVariants.{U8, S16, S32}
 use Rattle.net_model.specs.declared.network.NetKind.{NetKind}
 use Rattle.net_model.specs.declared.network.NetKind.TheVariants.{NoHead, BadLine, BadName, Repeated, BadType, UnknownRoutine, BadCount, UnknownName, LaterWire, TypeDiffers, BadNumber, OutOfRange, Missing, NotBuilt}
 use Rattle.fx_routines.specs.declared.operation.ArithOp.TheVariants.{Add}
@@ -14,15 +14,16 @@ use Rattle.fx_routines.specs.Reading.{after, first_type, read_first, read_second
 use Rattle.fx_routines.specs.declared.operation.ScaledOp.TheVariants.{Convert}
 use Rattle.net_model.specs.declared.wires.Kind.TheVariants.{Num}
 use Rattle.net_model.specs.declared.wires.Block.TheVariants.{Arith, Scaled}
-use Rattle.net_model.specs.declared.wires.Item.TheVariants.{Input, Const, Block as OfBlock}
+use Rattle.net_model.specs.declared.wires.Item.TheVariants.{Input, Const, Delay, Block as OfBlock}
 use Rattle.net_model.specs.Families.{signature_of, block_of}
 use Rattle.net_model.specs.BlockForms.{form_of}
 use Rattle.net_model.specs.Wires.{NetData, place_of}
 use Rattle.net_text.specs.TypeWords.{point_of_word, number_kind_of, kind_of, is_position}
 use Rattle.net_text.specs.RoutineWords.{routine_at}
-use Rattle.net_text.specs.Forms.{keyword_of, is_defined, is_known, are_known, wire_named, wires_named, are_numbers, number_in, numbers_in, given_line, fresh, input_of, const_of, agreed, in_line, const_line, wire_line, unbuilt_line, line_of, out_line, defining_line}
+use Rattle.net_text.specs.Forms.{is_known, are_known, wire_named, wires_named, are_numbers, number_in, numbers_in, given_line, fresh, input_of, const_of, agreed, in_line, const_line, wire_line, delay_of, delay_line, unbuilt_line, line_of, out_line, defining_line}
+use Rattle.net_text.specs.Names.{keyword_of, is_defined, names_below, line_naming}
 use Rattle.net_text.specs.Printing.{text_of}
-use Rattle.net_text.specs.Text.{after_out, after_definition, after_line, network_of}
+use Rattle.net_text.specs.Text.{after_out, after_definition, after_line, tested_behind, network_of}
 use Rattle.text_words.specs.Readers.{said_by, head_below, read_below, behind_line, behind_all}
 
 -- the first fault of a text, by its line and its kind
@@ -43,10 +44,20 @@ names_and_types : HasFaultBelow (codes "net 1\n") BadLine × HasFaultBelow (code
 unfolding network_of said_by head_below lines_of lines_from words_of read_below behind_line after_line after_definition keyword_of defining_line line_of in_line const_line fresh place_of input_of const_of kind_of number_kind_of point_of_word is_name number_of
 names_and_types = (refl, refl, refl, refl)
 
--- an axis with a point in its type, an axis, and a delay, whose source is no wire
-not_built : HasFaultBelow (codes "axis a s16.0 0\n") BadType × HasFaultBelow (codes "axis a s16 0\n") NotBuilt × HasFaultBelow (codes "delay y s16 0 = z\n") NotBuilt
+-- an axis with a point in its type, and an axis
+not_built : HasFaultBelow (codes "axis a s16.0 0\n") BadType × HasFaultBelow (codes "axis a s16 0\n") NotBuilt
 unfolding network_of said_by head_below lines_of lines_from words_of read_below behind_line after_line after_definition keyword_of defining_line line_of in_line unbuilt_line fresh place_of input_of kind_of number_kind_of point_of_word is_position is_name number_of
-not_built = (refl, refl, refl)
+not_built = (refl, refl)
+
+-- a delay whose source no line defines, one of positions, and one whose first value is too great for its type
+delays : HasFaultBelow (codes "delay y s16 0 = z\n") UnknownName × HasFaultBelow (codes "delay y dp:x 0 = x\n") TypeDiffers × HasFaultBelow (codes "delay y u8 256 = y\n") OutOfRange
+unfolding network_of said_by head_below lines_of lines_from words_of read_below behind_line after_line after_definition keyword_of names_below defining_line line_of in_line delay_line delay_of fresh place_of is_known is_defined input_of kind_of number_kind_of point_of_word is_position is_name number_of
+delays = (refl, refl, refl)
+
+-- a source of another type is told at the line of its delay, and before what is missing
+unsourced : HasFaultBelow (codes "delay y s32 0 = z\n\ndelay z s16 0 = x\n") TypeDiffers
+unfolding network_of said_by head_below lines_of lines_from words_of read_below behind_line behind_all after_line after_definition keyword_of names_below defining_line line_of in_line delay_line delay_of fresh place_of is_known is_defined input_of kind_of number_kind_of point_of_word is_position is_name number_of tested_behind line_naming
+unsourced = refl
 
 -- a routine that there isn't, one that isn't built, and too few arguments
 routines : HasFaultBelow (codes "wire y s16 = Mfx_Add_s8s16_s16 x z\n") UnknownRoutine × HasFaultBelow (codes "wire y s16 = Mfx_Mod_s16s16_s16 x\n") NotBuilt × HasFaultBelow (codes "wire y s16 = Mfx_Add_s16s16_s16 z\n") BadCount
@@ -61,7 +72,7 @@ arguments = (refl, refl, refl, refl, refl)
 
 -- a count of places that is no number, and one above 15; an empty range; and no output, told at the last line
 numbers : HasFaultBelow (codes "wire y s16 = Mfx_MulShRight_s16s16u8_s16 x x x\n") BadNumber × HasFaultBelow (codes "wire y s16 = Mfx_MulShRight_s16s16u8_s16 x x 16\n") OutOfRange × HasFaultBelow (codes "in y s16 5 4\n") OutOfRange × HasFaultBelow (codes "\n") Missing
-unfolding network_of said_by head_below lines_of lines_from words_of read_below behind_line after_line after_definition keyword_of defining_line line_of in_line wire_line given_line are_known wire_named wires_named are_numbers number_in numbers_in signature_of block_of fresh place_of is_known is_defined agreed input_of kind_of number_kind_of point_of_word is_position routine_at named rows row_of row_named read_parts read_part read_first read_second read_output read_word first_type after is_name number_of behind_all
+unfolding network_of said_by head_below lines_of lines_from words_of read_below behind_line after_line after_definition keyword_of defining_line line_of in_line wire_line given_line are_known wire_named wires_named are_numbers number_in numbers_in signature_of block_of fresh place_of is_known is_defined agreed input_of kind_of number_kind_of point_of_word is_position routine_at named rows row_of row_named read_parts read_part read_first read_second read_output read_word first_type after is_name number_of behind_all tested_behind
 numbers = (refl, refl, refl, refl)
 
 -- a good one
@@ -77,10 +88,26 @@ summed = record {
 }
 
 good_text : network_of (codes "net 1 # a sum\n\nin x s16 0 4\nconst k s16.07 -3\nwire y s32 = Mfx_Add_s16s16_s32 x k\nwire z s16.12 = Mfx_ConvertP2_s32_s16 y\nout z\nout y\n") ≡ Ok summed
-unfolding network_of said_by head_below lines_of lines_from words_of read_below behind_line after_line after_out after_definition keyword_of defining_line line_of in_line const_line wire_line given_line are_known wire_named wires_named are_numbers number_in numbers_in signature_of block_of out_line fresh place_of is_known is_defined agreed input_of const_of kind_of number_kind_of point_of_word is_position routine_at named rows row_of row_named read_parts read_part read_first read_second read_output read_word first_type after is_name number_of behind_all
+unfolding network_of said_by head_below lines_of lines_from words_of read_below behind_line after_line after_out after_definition keyword_of defining_line line_of in_line const_line wire_line given_line are_known wire_named wires_named are_numbers number_in numbers_in signature_of block_of out_line fresh place_of is_known is_defined agreed input_of const_of kind_of number_kind_of point_of_word is_position routine_at named rows row_of row_named read_parts read_part read_first read_second read_output read_word first_type after is_name number_of behind_all tested_behind
 good_text = refl
 
 -- and its canonical text
 printed_text : text_of summed ≡ codes "net 1\nin x s16 0 4\nconst k s16.7 -3\nwire y s32 = Mfx_Add_s16s16_s32 x k\nwire z s16.12 = Mfx_ConvertP2_s32_s16 y\nout z\nout y\n"
 unfolding text_of form_of signature_of row_of rows digits
 printed_text = refl
+
+-- one with a delay on a later wire and one on itself
+abbrev counted : NetData
+counted = record {
+  wires =
+      record { name = codes "x"; kind = Num S16 0; item = Input (pos 0) (pos 4) }
+      ∷ record { name = codes "y"; kind = Num S16 0; item = Delay (negsuc 0) (record { 0 = 2 }) }
+      ∷ record { name = codes "z"; kind = Num S16 0; item = OfBlock (Arith Add (record { x = S16; y = S16; o = S16 }) (record { 0 = 0 }) (record { 0 = 1 }) (record { 0 = 0 }) 0) }
+      ∷ record { name = codes "k"; kind = Num U8 2; item = Delay (pos 7) (record { 0 = 3 }) }
+      ∷ [];
+  outs = record { 0 = 2 } ∷ [];
+}
+
+delayed_text : network_of (codes "net 1\nin x s16 0 4\ndelay y s16 -1 = z\nwire z s16 = Mfx_Add_s16s16_s16 x y\ndelay k u8.2 7 = k\nout z\n") ≡ Ok counted
+unfolding network_of said_by head_below lines_of lines_from words_of read_below behind_line behind_all after_line after_out after_definition keyword_of names_below defining_line line_of in_line wire_line given_line delay_line delay_of are_known wire_named wires_named are_numbers number_in numbers_in signature_of block_of out_line fresh place_of is_known is_defined agreed input_of kind_of number_kind_of point_of_word is_position routine_at named rows row_of row_named read_parts read_part read_first read_second read_output read_word first_type after is_name number_of tested_behind
+delayed_text = refl

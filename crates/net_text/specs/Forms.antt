@@ -1,8 +1,7 @@
 -- The lines of a network's text, one definition for each form. The order of its lines is the order in which a
 -- line is tested; the first test that fails says what is wrong.
-use Rattle.std.specs.Prelude.{ℕ, ◌+◌, Bool, true, false, not, ◌&&◌, ◌||◌, ◌==◌, nat_le, nat_lt, List, [], ◌∷◌, length, ℤ, codes, bytes_eq, Option, Some, None, ok_or, is_some, Result, Ok, Err, if◌then◌else◌}
-use Rattle.std.specs.List.{list_any}
-use Rattle.text_words.specs.Lines.{nth, words_of}
+use Rattle.std.specs.Prelude.{ℕ, ◌+◌, Bool, true, false, not, ◌&&◌, ◌||◌, ◌==◌, nat_le, nat_lt, List, [], ◌∷◌, length, ℤ, codes, bytes_eq, Option, Some, None, ok_or, is_some, Result, Ok, Err}
+use Rattle.text_words.specs.Lines.{nth}
 use Rattle.text_words.specs.Names.{is_name}
 use Rattle.text_words.specs.Numbers.{number_of}
 use Rattle.text_words.specs.Steps.{◌>>=◌, demand}
@@ -15,7 +14,7 @@ use Rattle.net_model.specs.declared.network.NetKind.TheVariants.{BadLine, BadNam
 use Rattle.net_model.specs.declared.wires.WireNo.{WireNo}
 use Rattle.net_model.specs.declared.wires.Kind.{Kind}
 use Rattle.net_model.specs.declared.wires.Item.{Item}
-use Rattle.net_model.specs.declared.wires.Item.TheVariants.{Input, Const, Block as OfBlock}
+use Rattle.net_model.specs.declared.wires.Item.TheVariants.{Input, Const, Delay, Block as OfBlock}
 use Rattle.net_model.specs.declared.wires.Wire.{Wire}
 use Rattle.net_model.specs.declared.signatures.Sort.{Sort}
 use Rattle.net_model.specs.declared.signatures.Range.{Range}
@@ -29,36 +28,12 @@ use Rattle.net_model.specs.Wires.{NetData, place_of}
 use Rattle.net_model.specs.Families.{signature_of, block_of}
 use Rattle.net_model.specs.BlockForms.{in_range as is_in_range}
 use Rattle.net_model.specs.Validity.{item_in_range, form_agrees, is_among, most_wires}
+use Rattle.net_model.specs.Faults.{has_room}
+use Rattle.net_text.specs.Names.{keyword_of, is_defined, number_named}
 use Rattle.net_text.specs.TypeWords.{kind_of, ty_of, axis_name, is_position}
 use Rattle.net_text.specs.RoutineWords.{routine_at}
 
 -- ---- names
-
--- the keyword of a line that defines a name
-unfoldable pub keyword_of : List ℕ → Option Keyword
-keyword_of word =
-    if bytes_eq word (codes "in") then Some InLine
-    else (if bytes_eq word (codes "const") then Some ConstLine
-    else (if bytes_eq word (codes "axis") then Some AxisLine
-    else (if bytes_eq word (codes "axisstep") then Some AxisStepLine
-    else (if bytes_eq word (codes "axisshift") then Some AxisShiftLine
-    else (if bytes_eq word (codes "table") then Some TableLine
-    else (if bytes_eq word (codes "map") then Some MapLine
-    else (if bytes_eq word (codes "wire") then Some WireLine
-    else (if bytes_eq word (codes "delay") then Some DelayLine
-    else None))))))))
-
--- the first words of the lines that define a name
-abbrev pub is_defining : List ℕ → Bool
-is_defining word = is_some (keyword_of word)
-
--- a line of such a word defines its second word, whatever else the line says
-abbrev pub defines : List ℕ → List (List ℕ) → Bool
-defines name words = is_defining (nth words 0) && bytes_eq (nth words 1) name
-
--- some line of the text defines the name
-unfoldable pub is_defined : List (List ℕ) → List ℕ → Bool
-is_defined lines name = list_any (λ line. defines name (words_of line)) lines
 
 -- a wire so far has the name
 abbrev pub is_wire : List Wire → List ℕ → Bool
@@ -77,10 +52,6 @@ unfoldable pub fresh : List Wire → List ℕ → Result (Unit {0}) NetKind
 fresh wires name = do
   _ ← demand (is_name name) BadName
   demand (not (is_wire wires name)) Repeated
-
--- there is room for one more wire
-abbrev pub has_room : List Wire → Result (Unit {0}) NetKind
-has_room wires = demand (nat_lt (length wires) most_wires) TooMany
 
 -- ---- numbers
 
@@ -133,6 +104,18 @@ agreed net form word = do
   _ ← demand (form_agrees net kind form) TypeDiffers
   Ok kind
 
+-- ---- room
+
+-- there is room for one more wire
+abbrev pub has_place : List Wire → Result (Unit {0}) NetKind
+has_place wires = demand (nat_lt (length wires) most_wires) TooMany
+
+-- what a block's line gives its wire, where there is room for the wire and for the rows of its average
+abbrev pub with_room : List Wire → Kind → Item → Result Content NetKind
+with_room wires kind item = do
+  _ ← demand (has_room wires item) TooMany
+  Ok (record { kind = kind; item = item })
+
 -- ---- the forms
 
 -- `in NAME TYPE LO HI`
@@ -142,7 +125,7 @@ in_line wires words = do
   _ ← fresh wires (nth words 1)
   kind ← kind_at (nth words 2)
   item ← input_of kind (nth words 3) (nth words 4)
-  _ ← has_room wires
+  _ ← has_place wires
   Ok (record { kind = kind; item = item })
 
 -- `const NAME TYPE VALUE`
@@ -152,7 +135,7 @@ const_line wires words = do
   _ ← fresh wires (nth words 1)
   kind ← kind_at (nth words 2)
   item ← const_of kind (nth words 3)
-  _ ← has_room wires
+  _ ← has_place wires
   Ok (record { kind = kind; item = item })
 
 -- the words from number k on, one for each sort, are names that are known
@@ -208,7 +191,6 @@ given_line lines net routine types signature words = do
   kind ← agreed net (record { routine = routine; types = types; wires = wires; numbers = [] }) (nth words 2)
   _ ← demand (are_numbers signature.ranges (5 + length signature.sorts) words) BadNumber
   numbers ← numbers_in signature.ranges (5 + length signature.sorts) words
-  _ ← has_room net.wires
   Ok (record { kind = kind; form = record { routine = routine; types = types; wires = wires; numbers = numbers } })
 
 -- `wire NAME TYPE = ROUTINE ARG ..`
@@ -219,7 +201,37 @@ wire_line lines net words = do
   _ ← demand (is_type (nth words 2)) BadType
   found ← routine_at (nth words 4)
   given ← given_line lines net found.0 found.1 (signature_of found.0 found.1) words
-  Ok (record { kind = given.kind; item = OfBlock (block_of given.form) })
+  with_room net.wires given.kind (OfBlock (block_of given.form))
+
+-- the source of a delay: any wire of the text, by the number of its name
+abbrev pub source_named : List (List ℕ) → List ℕ → Result WireNo NetKind
+source_named lines name = do
+  number ← ok_or (number_named lines name) UnknownName
+  Ok (record { 0 = number })
+
+-- the kind of a delay: a position is none that is built
+abbrev pub delay_kind : List ℕ → Result Kind NetKind
+delay_kind word = ok_or (kind_of word) TypeDiffers
+
+-- a delay with the first value that a word writes
+unfoldable pub delay_of : Kind → List ℕ → WireNo → Result Item NetKind
+delay_of kind word source = do
+  init ← number_at word
+  in_range kind (Delay init source)
+
+-- `delay NAME TYPE INIT = SOURCE`
+unfoldable pub delay_line : List (List ℕ) → List Wire → List (List ℕ) → Result Content NetKind
+delay_line lines wires words = do
+  _ ← demand ((length words == 6) && bytes_eq (nth words 4) (codes "=")) BadLine
+  _ ← fresh wires (nth words 1)
+  _ ← demand (is_type (nth words 2)) BadType
+  _ ← demand (axis_passes (is_known lines wires) (nth words 2)) UnknownName
+  source ← source_named lines (nth words 5)
+  _ ← demand (axis_passes (is_wire wires) (nth words 2)) LaterWire
+  kind ← delay_kind (nth words 2)
+  item ← delay_of kind (nth words 3) source
+  _ ← has_place wires
+  Ok (record { kind = kind; item = item })
 
 -- a line that isn't built: its count of words, its name and its type are tested first
 unfoldable pub unbuilt_line : Bool → Bool → List Wire → List (List ℕ) → Result Content NetKind
@@ -240,10 +252,6 @@ spaced_line wires words = unbuilt_line (length words == 6) (is_narrow (ty_of (nt
 -- `map NAME TYPE NX NY V V ..`
 abbrev pub map_line : List Wire → List (List ℕ) → Result Content NetKind
 map_line wires words = unbuilt_line (nat_le 5 (length words)) (is_narrow (ty_of (nth words 2))) wires words
-
--- `delay NAME TYPE INIT = SOURCE`
-abbrev pub delay_line : List Wire → List (List ℕ) → Result Content NetKind
-delay_line wires words = unbuilt_line ((length words == 6) && bytes_eq (nth words 4) (codes "=")) (is_type (nth words 2)) wires words
 
 -- an output is among those so far
 abbrev pub is_output : List WireNo → Option ℕ → Bool
@@ -270,7 +278,7 @@ line_of AxisShiftLine lines net words = spaced_line net.wires words
 line_of TableLine lines net words = list_line net.wires words
 line_of MapLine lines net words = map_line net.wires words
 line_of WireLine lines net words = wire_line lines net words
-line_of DelayLine lines net words = delay_line net.wires words
+line_of DelayLine lines net words = delay_line lines net.wires words
 
 -- what a line gives that defines a name
 unfoldable pub defining_line : List (List ℕ) → NetData → List (List ℕ) → Result Content NetKind

@@ -1,16 +1,42 @@
--- The names that a text's lines define, in the order of the lines, and what stands above a line. `names_below` and what
--- stands on it are for private functions' clauses alone.
-use Rattle.std.specs.Prelude.{◌≡◌, ℕ, List, [], ◌∷◌, ◌++◌, map, length, take, bytes_eq, if◌then◌else◌}
+-- The names that a text's lines define, in the order of the lines, and what stands above a line. `SoFar`, `wire_names`
+-- and `AreFirst` are for private functions' clauses alone.
+use Rattle.std.specs.Prelude.{◌≡◌, ℕ, ◌+◌, Bool, ◌&&◌, List, [], ◌∷◌, ◌++◌, map, length, take, codes, bytes_eq, Option, Some, None, is_some, position, if◌then◌else◌}
 use Rattle.std.specs.List.{list_any}
 use Rattle.text_words.specs.Lines.{nth, words_of}
 use Rattle.net_model.specs.declared.wires.Wire.{Wire}
 use Rattle.net_model.specs.Wires.{NetData}
-use Rattle.net_text.specs.Forms.{is_defining}
+use Rattle.net_text.specs.declared.keyword.Keyword.{Keyword}
+use Rattle.net_text.specs.declared.keyword.Keyword.TheVariants.{InLine, ConstLine, AxisLine, AxisStepLine, AxisShiftLine, TableLine, MapLine, WireLine, DelayLine}
 
--- what is read so far of a text: its lines, read or not, and the network of the lines that were read
-pub record SoFar : Type 0 where
-  pub lines : List (List ℕ)
-  pub net : NetData
+-- ---- the lines that define a name
+
+-- the keyword of a line that defines a name
+unfoldable pub keyword_of : List ℕ → Option Keyword
+keyword_of word =
+    if bytes_eq word (codes "in") then Some InLine
+    else (if bytes_eq word (codes "const") then Some ConstLine
+    else (if bytes_eq word (codes "axis") then Some AxisLine
+    else (if bytes_eq word (codes "axisstep") then Some AxisStepLine
+    else (if bytes_eq word (codes "axisshift") then Some AxisShiftLine
+    else (if bytes_eq word (codes "table") then Some TableLine
+    else (if bytes_eq word (codes "map") then Some MapLine
+    else (if bytes_eq word (codes "wire") then Some WireLine
+    else (if bytes_eq word (codes "delay") then Some DelayLine
+    else None))))))))
+
+-- the first words of the lines that define a name
+abbrev pub is_defining : List ℕ → Bool
+is_defining word = is_some (keyword_of word)
+
+-- a line of such a word defines its second word, whatever else the line says
+abbrev pub defines : List ℕ → List (List ℕ) → Bool
+defines name words = is_defining (nth words 0) && bytes_eq (nth words 1) name
+
+-- some line of the text defines the name
+unfoldable pub is_defined : List (List ℕ) → List ℕ → Bool
+is_defined lines name = list_any (λ line. defines name (words_of line)) lines
+
+-- ---- their names
 
 -- the names, with one more behind them where it isn't among them
 abbrev pub with_name : List (List ℕ) → List ℕ → List (List ℕ)
@@ -28,6 +54,22 @@ names_below names (line ∷ rest) = names_below (with_defined names (words_of li
 -- the names that the lines define, each once
 abbrev pub names_of : List (List ℕ) → List (List ℕ)
 names_of lines = names_below [] lines
+
+-- the number of a name, from 0: its place among those that the lines define
+abbrev pub number_named : List (List ℕ) → List ℕ → Option ℕ
+number_named lines name = position (bytes_eq name) (names_of lines)
+
+-- the number of the first line, from 1, that defines the name; of the last line where none does
+unfoldable pub line_naming : List (List ℕ) → List ℕ → ℕ
+line_naming [] name = 0
+line_naming (line ∷ rest) name = if defines name (words_of line) then 1 else line_naming rest name + 1
+
+-- ---- what stands above a line
+
+-- what is read so far of a text: its lines, read or not, and the network of the lines that were read
+pub record SoFar : Type 0 where
+  pub lines : List (List ℕ)
+  pub net : NetData
 
 -- the names of wires, in order
 abbrev pub wire_names : List Wire → List (List ℕ)

@@ -8,7 +8,7 @@ use Rattle.net_model.specs.declared.wires.WireNo.{WireNo}
 use Rattle.net_model.specs.declared.wires.Kind.{Kind}
 use Rattle.net_model.specs.declared.wires.Kind.TheVariants.{Num, Truth}
 use Rattle.net_model.specs.declared.wires.Item.{Item}
-use Rattle.net_model.specs.declared.wires.Item.TheVariants.{Input, Const, Block as OfBlock}
+use Rattle.net_model.specs.declared.wires.Item.TheVariants.{Input, Const, Delay, Block as OfBlock}
 use Rattle.net_model.specs.declared.wires.Wire.{Wire}
 use Rattle.net_model.specs.declared.block_forms.Form.{Form}
 use Rattle.net_model.specs.BlockForms.{form_of}
@@ -48,6 +48,8 @@ wire_words wires w = item_words wires w.name (kind_word w.kind) w.item where
   item_words : List Wire → List ℕ → List ℕ → Item → List (List ℕ)
   item_words wires name kind (Input lo hi) = codes "in" ∷ name ∷ kind ∷ signed_decimal lo ∷ signed_decimal hi ∷ []
   item_words wires name kind (Const value) = codes "const" ∷ name ∷ kind ∷ signed_decimal value ∷ []
+  item_words wires name kind (Delay init source) =
+      codes "delay" ∷ name ∷ kind ∷ signed_decimal init ∷ codes "=" ∷ (wire_at wires source.0).name ∷ []
   item_words wires name kind (OfBlock b) = codes "wire" ∷ name ∷ kind ∷ codes "=" ∷ form_words wires (form_of b)
 
 -- the words of an output's line

@@ -1,6 +1,6 @@
 // The keywords of lines that define a name.
 ghost use Rattle.std.specs.Prelude.{◌≡◌};
-ghost use Rattle.net_text.specs.Forms.{keyword_of};
+ghost use Rattle.net_text.specs.Names.{keyword_of};
 
 use text_words::is_literal;
 
@@ -19,7 +19,7 @@ pub enum Keyword {
 }
 
 /// The keyword that the word is; None for `net`, for `out` and for every other word.
-#[tactic(auto, unfolding(crate::specs::Forms::keyword_of))]
+#[tactic(auto, unfolding(crate::specs::Names::keyword_of))]
 pub fn keyword_of(word: &[u8]) -> Option<Keyword>
     ensures { result ≡ keyword_of word.now }
 {

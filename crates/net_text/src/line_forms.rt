@@ -5,7 +5,7 @@ ghost use Rattle.text_words.specs.Names.{is_name};
 ghost use Rattle.text_words.specs.Numbers.{number_of};
 ghost use Rattle.net_model.specs.Validity.{is_among};
 ghost use Rattle.net_text.specs.TypeWords.{ty_of};
-ghost use Rattle.net_text.specs.Forms.{agreed, are_known, are_numbers, axis_passes, const_line, const_of, defining_line, delay_line, fresh, given_line, in_line, input_of, is_known, is_narrow, is_output, is_type, is_wire, line_of, list_line, map_line, number_in, numbers_in, out_line, spaced_line, unbuilt_line, wire_above, wire_line, wire_named, wires_named};
+ghost use Rattle.net_text.specs.Forms.{agreed, are_known, are_numbers, axis_passes, const_line, const_of, defining_line, delay_line, delay_of, fresh, given_line, in_line, input_of, is_known, is_narrow, is_output, is_type, is_wire, line_of, list_line, map_line, number_in, numbers_in, out_line, source_named, spaced_line, unbuilt_line, wire_above, wire_line, wire_named, wires_named, with_room};
 
 use crate::keyword::{Keyword, keyword_of};
 use crate::names::Above;
@@ -15,7 +15,7 @@ use fx_core::Ty;
 use fx_routines::{Routine, Types};
 use net_model::{
     Few, Form, Item, Kind, MOST_WIRES, NetKind, Range, Signature, Sort, WireNo, block_of,
-    form_agrees, in_range, is_range, kind_holds, signature_of,
+    form_agrees, has_room, in_range, is_range, kind_holds, signature_of,
 };
 use text_words::{count_words, demand, is_literal, is_name, number, word_at};
 
@@ -118,8 +118,7 @@ fn wire_line(above: &Above, line: &[u8]) -> Result<Content, NetKind>
     let (routine, types) = routine_at(word_at(line, 4))?;
     let signature = signature_of(routine, types);
     let Given { kind, form } = given_line(above, routine, types, &signature, line)?;
-    let item = Item::Block(block_of(&form));
-    Ok(Content { kind, item })
+    with_room(above, kind, &Item::Block(block_of(&form)))
 }
 
 // What a line gives of a routine of this signature: first wires, then numbers.
@@ -132,8 +131,7 @@ fn given_line(
     line: &[u8],
 ) -> Result<Given, NetKind>
     requires { length above.now.net.wires ≤ 512 }
-    ensures value { result ≡ given_line above.now.lines above.now.net routine types signature.now (words_of line.now) }
-    ensures room { OnOk result (length above.now.net.wires < 512) }
+    ensures { result ≡ given_line above.now.lines above.now.net routine types signature.now (words_of line.now) }
 {
     let sorts = signature.sorts.as_slice();
     let ranges = signature.ranges.as_slice();
@@ -153,8 +151,45 @@ fn given_line(
     let kind = agreed(above, &form, word_at(line, 2))?;
     demand!(are_numbers(ranges, first_number, line), NetKind::BadNumber);
     form.numbers = numbers_in(ranges, first_number, line)?;
-    demand!(above.draft().wires.len() < MOST_WIRES, NetKind::TooMany);
     Ok(Given { kind, form })
+}
+
+// `delay NAME TYPE INIT = SOURCE`
+#[tactic(auto, unfolding(crate::specs::Forms::delay_line))]
+fn delay_line(above: &Above, line: &[u8]) -> Result<Content, NetKind>
+    ensures value { result ≡ delay_line above.now.lines above.now.net.wires (words_of line.now) }
+    ensures room { OnOk result (length above.now.net.wires < 512) }
+    ensures name { OnOk result (is_name (nth (words_of line.now) 1) ≡ true) }
+{
+    demand!(is_delay_form(line), NetKind::BadLine);
+    fresh(above, word_at(line, 1))?;
+    demand!(is_type(word_at(line, 2)), NetKind::BadType);
+    demand!(axis_is_known(above, word_at(line, 2)), NetKind::UnknownName);
+    let source = source_named(above, word_at(line, 5))?;
+    demand!(axis_is_reached(above, word_at(line, 2)), NetKind::LaterWire);
+    let Some(kind) = kind_of(word_at(line, 2)) else {
+        return Err(NetKind::TypeDiffers);
+    };
+    let item = delay_of(kind, word_at(line, 3), source)?;
+    demand!(above.draft().wires.len() < MOST_WIRES, NetKind::TooMany);
+    Ok(Content { kind, item })
+}
+
+// Six words, of which the fifth is `=`.
+fn is_delay_form(line: &[u8]) -> bool
+    ensures { result ≡ ((length (words_of line.now) == 6) && bytes_eq (nth (words_of line.now) 4) (codes "=")) }
+{
+    count_words(line) == 6 && is_literal(word_at(line, 4), b"=")
+}
+
+// The source of a delay, which may stand on any line.
+fn source_named(above: &Above, name: &[u8]) -> Result<WireNo, NetKind>
+    ensures { result ≡ source_named above.now.lines name.now }
+{
+    match above.number_named(name) {
+        Some(number) => Ok(number),
+        None => Err(NetKind::UnknownName),
+    }
 }
 
 // A line that isn't built: its form, its name and its type are tested first.
@@ -198,21 +233,6 @@ fn map_line(above: &Above, line: &[u8]) -> Result<Content, NetKind>
     unbuilt_line(count_words(line) >= 5, has_narrow(line), above, line)
 }
 
-// `delay NAME TYPE INIT = SOURCE`
-fn delay_line(above: &Above, line: &[u8]) -> Result<Content, NetKind>
-    ensures value { result ≡ delay_line above.now.net.wires (words_of line.now) }
-    ensures none { OnOk result (true ≡ false) }
-{
-    unbuilt_line(is_delay_form(line), is_type(word_at(line, 2)), above, line)
-}
-
-// Six words, of which the fifth is `=`.
-fn is_delay_form(line: &[u8]) -> bool
-    ensures { result ≡ ((length (words_of line.now) == 6) && bytes_eq (nth (words_of line.now) 4) (codes "=")) }
-{
-    count_words(line) == 6 && is_literal(word_at(line, 4), b"=")
-}
-
 /// The wire that an `out NAME` names.
 #[tactic(auto, unfolding(crate::specs::Forms::out_line))]
 pub fn out_line(above: &Above, line: &[u8]) -> Result<WireNo, NetKind>
@@ -246,6 +266,18 @@ fn fresh(above: &Above, name: &[u8]) -> Result<(), NetKind>
     demand!(is_name(name), NetKind::BadName);
     demand!(!above.is_wire(name), NetKind::Repeated);
     Ok(())
+}
+
+// What a block's line gives its wire, where there is room for the wire and for the rows of its average.
+fn with_room(above: &Above, kind: Kind, item: &Item) -> Result<Content, NetKind>
+    ensures value { result ≡ with_room above.now.net.wires kind item.now }
+    ensures room { OnOk result (length above.now.net.wires < 512) }
+{
+    demand!(
+        has_room(above.draft().wires.as_slice(), *item),
+        NetKind::TooMany
+    );
+    Ok(Content { kind, item: *item })
 }
 
 // ---- names
@@ -355,6 +387,17 @@ fn const_of(kind: Kind, word: &[u8]) -> Result<Item, NetKind>
     };
     demand!(kind_holds(kind, value), NetKind::OutOfRange);
     Ok(Item::Const { value })
+}
+
+#[tactic(auto, using(crate::proofs::HeldNumbers::delay_of_held))]
+fn delay_of(kind: Kind, word: &[u8], source: WireNo) -> Result<Item, NetKind>
+    ensures { result ≡ delay_of kind word.now source }
+{
+    let Some(init) = number(word) else {
+        return Err(NetKind::BadNumber);
+    };
+    demand!(kind_holds(kind, init), NetKind::OutOfRange);
+    Ok(Item::Delay { init, source })
 }
 
 // Whether the words from number `first` on, one for each range, are numbers.

@@ -66,6 +66,9 @@ fn push_wire(text: &mut Vec<u8>, net: &Network, wire: &Wire) -> Result<(), Alloc
     match wire.item {
         Item::Input { lo, hi } => push_input(text, name, wire.kind, lo, hi),
         Item::Const { value } => push_const(text, name, wire.kind, value),
+        Item::Delay { init, source } => {
+            push_delay(text, name, wire.kind, init, name_of(net.wires(), source))
+        }
         Item::Block(block) => { push_block(text, net.wires(), name, wire.kind, &form_of(block)) },
     }
 }
@@ -89,6 +92,21 @@ fn push_const(text: &mut Vec<u8>, name: &[u8], kind: Kind, value: i64) -> Result
 {
     push_front(text, b"const", name, kind)?;
     push_number(text, b' ', value)
+}
+
+fn push_delay(
+    text: &mut Vec<u8>,
+    name: &[u8],
+    kind: Kind,
+    init: i64,
+    source: &[u8],
+) -> Result<(), AllocError>
+    ensures { OnOk result (text.new.items ≡ text.old.items ++ 10 ∷ spaced (codes "delay" ∷ name.now ∷ kind_word kind ∷ signed_decimal init ∷ codes "=" ∷ source.now ∷ [])) }
+{
+    push_front(text, b"delay", name, kind)?;
+    push_number(text, b' ', init)?;
+    push_piece(text, b' ', b"=")?;
+    push_piece(text, b' ', source)
 }
 
 fn push_block(

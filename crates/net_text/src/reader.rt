@@ -5,15 +5,17 @@ ghost use Rattle.text_words.specs.Names.{is_name};
 ghost use Rattle.net_model.specs.Wires.{NetData, no_net, with_out, with_wire};
 ghost use Rattle.net_model.specs.Validity.{IsValid};
 ghost use Rattle.net_model.specs.Drafts.{data_of};
-ghost use Rattle.text_words.specs.Readers.{at_line, behind_all, behind_line, head_below, read_below};
+ghost use Rattle.text_words.specs.Readers.{at_line, behind_line, head_below, read_below, said_by};
 ghost use Rattle.net_text.specs.Names.{AreFirst, names_below, names_of};
-ghost use Rattle.net_text.specs.Text.{GivesDraft, Reads, after_definition, after_out, net_reader, network_of};
+ghost use Rattle.net_text.specs.Text.{GivesDraft, Reads, after_definition, after_out, net_reader, network_of, sources_tested, tested_behind, with_ends};
 
 use crate::line_forms::{Content, defining_line, out_line};
-use crate::names::{Above, Names};
-use net_model::{Draft, Name, NameFault, NetKind, Network, Wire, WireNo, has_ends};
+use crate::names::{Above, Names, line_naming};
+use net_model::{
+    Draft, Name, NameFault, NetKind, Network, Wire, WireNo, first_unsourced, has_ends,
+};
 use std::alloc::Global;
-use text_words::{behind_head, count_words, is_literal, next_line, word_at};
+use text_words::{behind_head, count_words, is_literal, next_line, without_mark, word_at};
 
 /// A fault of a network's text: the number of its line, from 1, and what is wrong there.
 #[derive(Clone, Copy, Debug, PartialEq, Eq)]
@@ -59,15 +61,80 @@ fn build(alloc: Global, draft: Draft) -> Result<Network, NetError>
     }
 }
 
-#[tactic(auto, unfolding(crate::specs::Text::network_of, text_words::specs::Readers::said_by))]
+#[tactic(auto, unfolding(crate::specs::Text::network_of))]
 fn read_draft(alloc: Global, text: &[u8]) -> Result<Draft, NetError>
     requires { length text.now < 2 ^ 32 }
     ensures { GivesDraft (network_of text.now) result }
+{
+    match read_said(alloc, text) {
+        Ok(draft) => behind_lines(text, draft),
+        Err(fault) => Err(fault),
+    }
+}
+
+// What the lines say.
+#[tactic(auto, unfolding(text_words::specs::Readers::said_by))]
+fn read_said(alloc: Global, text: &[u8]) -> Result<Draft, NetError>
+    requires { length text.now < 2 ^ 32 }
+    ensures { GivesDraft (said_by (net_reader (lines_of text.now)) text.now) result }
 {
     match behind_head(b"net", text) {
         Ok((head, lines)) => read_below_head(alloc, text, head, lines),
         Err(line) => Err(fault_at(line, NetKind::NoHead)),
     }
+}
+
+// The draft, if it passes the tests behind all lines.
+#[tactic(auto, unfolding(crate::specs::Text::tested_behind))]
+fn behind_lines(text: &[u8], draft: Draft) -> Result<Draft, NetError>
+    requires { length text.now < 2 ^ 32 }
+    ensures { GivesDraft (tested_behind (lines_of text.now) (data_of draft)) result }
+{
+    match check_sources(text, &draft.wires) {
+        Ok(()) => with_ends(text, draft),
+        Err(fault) => Err(NetError::Fault(fault)),
+    }
+}
+
+// The sources of delays: the line of a delay is looked for only where its source has a fault.
+fn check_sources(text: &[u8], wires: &[Wire]) -> Result<(), NetFault>
+    requires { length text.now < 2 ^ 32 }
+    ensures { result ≡ sources_tested (lines_of text.now) wires.now }
+{
+    match first_unsourced(wires) {
+        Some(delay) => Err(NetFault {
+            line: line_naming(text, wires[delay].name.bytes()),
+            kind: NetKind::TypeDiffers,
+        }),
+        None => Ok(()),
+    }
+}
+
+// The draft, if it has an input and an output.
+fn with_ends(text: &[u8], draft: Draft) -> Result<Draft, NetError>
+    requires { length text.now < 2 ^ 32 }
+    ensures { GivesDraft (with_ends (lines_of text.now) (data_of draft)) result }
+{
+    if has_ends(&draft.wires, &draft.outs) {
+        Ok(draft)
+    } else {
+        Err(fault_at(count_lines(text), NetKind::Missing))
+    }
+}
+
+// How many lines a text has.
+#[tactic(auto, using(crate::proofs::LinesCounted::count_steps))]
+fn count_lines(text: &[u8]) -> u32
+    requires { length text.now < 2 ^ 32 }
+    ensures { result ≡ length (lines_of text.now) }
+{
+    let mut count = 0;
+    let mut left = without_mark(text);
+    while let Some((_, rest)) = next_line(left) {
+        count += 1;
+        left = rest;
+    }
+    count
 }
 
 // The lines below the head, once the names that the text defines are found.
@@ -79,6 +146,7 @@ fn read_below_head<'a>(
 ) -> Result<Draft, NetError>
     requires below { head_below (codes "net") 0 (lines_of text.now) ≡ Ok (record { line = head; below = lines_from lines.now }) }
     requires few { head + length lines.now < 2 ^ 32 }
+    requires short { length text.now < 2 ^ 32 }
     ensures { GivesDraft (read_below (net_reader (lines_of text.now)) head no_net (lines_from lines.now)) result }
 {
     match Names::of(alloc, text) {
@@ -88,7 +156,7 @@ fn read_below_head<'a>(
 }
 
 // The lines below the head.
-#[tactic(auto, unfolding(text_words::specs::Readers::read_below))]
+#[tactic(auto, unfolding(text_words::specs::Readers::read_below, text_words::specs::Readers::behind_all))]
 fn read_lines(alloc: Global, names: &Names, head: u32, lines: &[u8]) -> Result<Draft, NetError>
     requires few { head + length lines.now < 2 ^ 32 }
     requires below { names_below [] (lines_from lines.now) ≡ names_of names.now }
@@ -105,7 +173,7 @@ fn read_lines(alloc: Global, names: &Names, head: u32, lines: &[u8]) -> Result<D
         draft = behind_line(alloc, names, draft, above, line)?;
         left = rest;
     }
-    behind_all(draft, above)
+    Ok(draft)
 }
 
 #[tactic(auto, unfolding(text_words::specs::Readers::behind_line, crate::specs::Text::after_line))]
@@ -203,17 +271,6 @@ fn named(alloc: Global, bytes: &[u8]) -> Result<Name, NetError>
         Ok(name) => Ok(name),
         Err(NameFault::OutOfMemory) => Err(NetError::OutOfMemory),
         Err(NameFault::BadName) => unreachable!(),
-    }
-}
-
-#[tactic(auto, unfolding(text_words::specs::Readers::behind_all))]
-fn behind_all(draft: Draft, number: u32) -> Result<Draft, NetError>
-    ensures { (lines : List (List ℕ)) → GivesDraft (at_line (net_reader lines) number (behind_all (net_reader lines) (data_of draft))) result }
-{
-    if has_ends(&draft.wires, &draft.outs) {
-        Ok(draft)
-    } else {
-        Err(fault_at(number, NetKind::Missing))
     }
 }
 

@@ -3,7 +3,8 @@
 ghost use Rattle.std.specs.Prelude.{◌<◌, ◌^◌, length};
 
 use crate::networks::network;
-use cert_rules::{BadBounds, Bounds, Certificate, allowed, argument, first_disallowed, rule};
+use cert_checker::first_disallowed;
+use cert_rules::{BadBounds, Bounds, Certificate, allowed, argument, rule};
 use net_model::{Network, PartNo};
 use std::alloc::{AllocError, Global};
 use std::test::Fail;

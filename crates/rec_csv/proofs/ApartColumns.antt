@@ -6,7 +6,7 @@ use Rattle.std.proofs.lemmas.Bool.{and_parts, not-true}
 use Rattle.std.proofs.lemmas.Slice.Eq.{bytes_eq-Decides}
 use Rattle.net_model.specs.declared.wires.WireNo.{WireNo}
 use Rattle.net_model.specs.declared.wires.Item.{Item}
-use Rattle.net_model.specs.declared.wires.Item.TheVariants.{Input, Const, Block as OfBlock}
+use Rattle.net_model.specs.declared.wires.Item.TheVariants.{Input, Const, Delay, Block as OfBlock}
 use Rattle.net_model.specs.declared.wires.Wire.{Wire}
 use Rattle.text_words.specs.Steps.{◌>>=◌}
 use Rattle.net_model.specs.Wires.{NetData, wire_at, with_input, inputs_from, inputs_of}
@@ -94,6 +94,7 @@ at_least_by : (item : Item) (i : ℕ) (rest : List WireNo) (k : ℕ) → ((j : �
 at_least_by (Input lo hi) i rest zero later lt = omega arith
 at_least_by (Input lo hi) i rest (suc k) later lt = omega (arith, later k (omega (arith, lt)))
 at_least_by (Const value) i rest k later lt = omega (arith, later k lt)
+at_least_by (Delay init source) i rest k later lt = omega (arith, later k lt)
 at_least_by (OfBlock b) i rest k later lt = omega (arith, later k lt)
 
 at_least : (wires : List Wire) (i k : ℕ) → k < length (inputs_from i wires) → i ≤ (get_or (inputs_from i wires) k none).0
@@ -106,6 +107,7 @@ rises_by (Input lo hi) i rest j zero later rise below lt = absurd (omega (arith,
 rises_by (Input lo hi) i rest zero (suc k) later rise below lt = later k (omega (arith, lt))
 rises_by (Input lo hi) i rest (suc j) (suc k) later rise below lt = rise j k (omega (arith, below)) (omega (arith, lt))
 rises_by (Const value) i rest j k later rise below lt = rise j k below lt
+rises_by (Delay init source) i rest j k later rise below lt = rise j k below lt
 rises_by (OfBlock b) i rest j k later rise below lt = rise j k below lt
 
 rises : (wires : List Wire) (i j k : ℕ) → j < k → k < length (inputs_from i wires) → (get_or (inputs_from i wires) j none).0 < (get_or (inputs_from i wires) k none).0
@@ -117,6 +119,7 @@ rises (wire ∷ wires) i j k below lt =
 count_by_item : (item : Item) (i : ℕ) (rest : List WireNo) (count : ℕ) → length rest ≤ count → length (with_input item i rest) ≤ suc count
 count_by_item (Input lo hi) i rest count le = omega (arith, le)
 count_by_item (Const value) i rest count le = omega (arith, le)
+count_by_item (Delay init source) i rest count le = omega (arith, le)
 count_by_item (OfBlock b) i rest count le = omega (arith, le)
 
 count : (wires : List Wire) (i : ℕ) → length (inputs_from i wires) ≤ length wires

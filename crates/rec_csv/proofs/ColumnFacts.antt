@@ -5,7 +5,7 @@ use Rattle.std.proofs.lemmas.List.{drop_more}
 use Rattle.csv.specs.Records.{field_at}
 use Rattle.net_model.specs.declared.wires.WireNo.{WireNo}
 use Rattle.net_model.specs.declared.wires.Item.{Item}
-use Rattle.net_model.specs.declared.wires.Item.TheVariants.{Input, Const, Block as OfBlock}
+use Rattle.net_model.specs.declared.wires.Item.TheVariants.{Input, Const, Delay, Block as OfBlock}
 use Rattle.net_model.specs.declared.wires.Wire.{Wire}
 use Rattle.net_model.specs.Wires.{wire_at, with_input, inputs_from, inputs_of}
 use Rattle.rec_csv.specs.declared.columns.Column.{Column}
@@ -53,6 +53,7 @@ with_below : (item : Item) (i : ℕ) (all : List Wire) (rest : List WireNo) → 
 unfolding are_wires
 with_below (Input lo hi) i all rest lt h = (lt, h)
 with_below (Const value) i all rest lt h = h
+with_below (Delay init source) i all rest lt h = h
 with_below (OfBlock b) i all rest lt h = h
 
 -- the inputs of wires from number i are among the first k wires

@@ -7,6 +7,8 @@ mod arithmetic;
 #[cfg(test)]
 mod binary_point_forms;
 #[cfg(test)]
+mod filters;
+#[cfg(test)]
 mod rounding;
 #[cfg(test)]
 mod routine_names;

@@ -1,33 +1,33 @@
-use Rattle.net_model.specs.Wires.{wire_at}
-use Rattle.cert_rules.proofs.RuleFacts.{given_is, given_small, wire_from, wire_there}
+use Rattle.cert_rules.specs.Rules.{part_rule}
+use Rattle.cert_rules.proofs.RuleFacts.{given_is, given_sized, part_from, read_there}
 use Rattle.cert_rules.proofs.lookups.given_to.Goals as goal
 
 pub entry_if-first-requires-clause-there : goal.entry_if-first-requires-clause-there
 entry_if-first-requires-clause-there c =
-    wire_there c.args.net.now (wire_at c.args.net.now.wires c.args.wire.0).kind c.args.block.now c.args.all.now 0 _ c.requires.allowed (wire_from c.args.block.now c.form_of-form.result c.as_slice-wires.result.now 0 _ c.form_of-form.ensures c.as_slice-wires.ensures.items c.wire_of.ensures)
+    read_there c.args.net.now c.args.all.now (part_rule c.args.net.now c.args.part).reads 0 _ c.requires.allowed (part_from c.args.net.now c.args.part c.item_at.result c.parts_read-reads.result c.as_slice-parts.result.now 0 _ c.item_at.ensures c.parts_read-reads.ensures c.as_slice-parts.ensures.items c.part_among.ensures)
 
 pub entry_if-second-requires-clause-there : goal.entry_if-second-requires-clause-there
 entry_if-second-requires-clause-there c =
-    wire_there c.args.net.now (wire_at c.args.net.now.wires c.args.wire.0).kind c.args.block.now c.args.all.now 1 _ c.requires.allowed (wire_from c.args.block.now c.form_of-form.result c.as_slice-wires.result.now 1 _ c.form_of-form.ensures c.as_slice-wires.ensures.items c.wire_of-2.ensures)
+    read_there c.args.net.now c.args.all.now (part_rule c.args.net.now c.args.part).reads 1 _ c.requires.allowed (part_from c.args.net.now c.args.part c.item_at.result c.parts_read-reads.result c.as_slice-parts.result.now 1 _ c.item_at.ensures c.parts_read-reads.ensures c.as_slice-parts.ensures.items c.part_among-2.ensures)
 
 pub entry_if-third-requires-clause-there : goal.entry_if-third-requires-clause-there
 entry_if-third-requires-clause-there c =
-    wire_there c.args.net.now (wire_at c.args.net.now.wires c.args.wire.0).kind c.args.block.now c.args.all.now 2 _ c.requires.allowed (wire_from c.args.block.now c.form_of-form.result c.as_slice-wires.result.now 2 _ c.form_of-form.ensures c.as_slice-wires.ensures.items c.wire_of-3.ensures)
+    read_there c.args.net.now c.args.all.now (part_rule c.args.net.now c.args.part).reads 2 _ c.requires.allowed (part_from c.args.net.now c.args.part c.item_at.result c.parts_read-reads.result c.as_slice-parts.result.now 2 _ c.item_at.ensures c.parts_read-reads.ensures c.as_slice-parts.ensures.items c.part_among-3.ensures)
 
 pub returns-clause-given : goal.returns-clause-given
 returns-clause-given c =
-    let kind = (wire_at c.args.net.now.wires c.args.wire.0).kind in
+    let reads = (part_rule c.args.net.now c.args.part).reads in
     record {
-      first = given_is c.args.net.now kind c.args.block.now c.args.all.now 0 _ _ (wire_from c.args.block.now c.form_of-form.result c.as_slice-wires.result.now 0 _ c.form_of-form.ensures c.as_slice-wires.ensures.items c.wire_of.ensures) c.entry_if-first.ensures;
-      second = given_is c.args.net.now kind c.args.block.now c.args.all.now 1 _ _ (wire_from c.args.block.now c.form_of-form.result c.as_slice-wires.result.now 1 _ c.form_of-form.ensures c.as_slice-wires.ensures.items c.wire_of-2.ensures) c.entry_if-second.ensures;
-      third = given_is c.args.net.now kind c.args.block.now c.args.all.now 2 _ _ (wire_from c.args.block.now c.form_of-form.result c.as_slice-wires.result.now 2 _ c.form_of-form.ensures c.as_slice-wires.ensures.items c.wire_of-3.ensures) c.entry_if-third.ensures;
+      first = given_is c.args.net.now c.args.all.now reads 0 _ _ (part_from c.args.net.now c.args.part c.item_at.result c.parts_read-reads.result c.as_slice-parts.result.now 0 _ c.item_at.ensures c.parts_read-reads.ensures c.as_slice-parts.ensures.items c.part_among.ensures) c.entry_if-first.ensures;
+      second = given_is c.args.net.now c.args.all.now reads 1 _ _ (part_from c.args.net.now c.args.part c.item_at.result c.parts_read-reads.result c.as_slice-parts.result.now 1 _ c.item_at.ensures c.parts_read-reads.ensures c.as_slice-parts.ensures.items c.part_among-2.ensures) c.entry_if-second.ensures;
+      third = given_is c.args.net.now c.args.all.now reads 2 _ _ (part_from c.args.net.now c.args.part c.item_at.result c.parts_read-reads.result c.as_slice-parts.result.now 2 _ c.item_at.ensures c.parts_read-reads.ensures c.as_slice-parts.ensures.items c.part_among-3.ensures) c.entry_if-third.ensures;
     }
 
-pub returns-clause-small : goal.returns-clause-small
-returns-clause-small c =
-    let kind = (wire_at c.args.net.now.wires c.args.wire.0).kind in
+pub returns-clause-sized : goal.returns-clause-sized
+returns-clause-sized c =
+    let reads = (part_rule c.args.net.now c.args.part).reads in
     record {
-      first = given_small c.args.net.now kind c.args.block.now c.args.all.now 0 _ _ c.requires.allowed (wire_from c.args.block.now c.form_of-form.result c.as_slice-wires.result.now 0 _ c.form_of-form.ensures c.as_slice-wires.ensures.items c.wire_of.ensures) c.entry_if-first.ensures;
-      second = given_small c.args.net.now kind c.args.block.now c.args.all.now 1 _ _ c.requires.allowed (wire_from c.args.block.now c.form_of-form.result c.as_slice-wires.result.now 1 _ c.form_of-form.ensures c.as_slice-wires.ensures.items c.wire_of-2.ensures) c.entry_if-second.ensures;
-      third = given_small c.args.net.now kind c.args.block.now c.args.all.now 2 _ _ c.requires.allowed (wire_from c.args.block.now c.form_of-form.result c.as_slice-wires.result.now 2 _ c.form_of-form.ensures c.as_slice-wires.ensures.items c.wire_of-3.ensures) c.entry_if-third.ensures;
+      first = given_sized c.args.net.now c.args.all.now reads 0 _ _ c.requires.allowed (part_from c.args.net.now c.args.part c.item_at.result c.parts_read-reads.result c.as_slice-parts.result.now 0 _ c.item_at.ensures c.parts_read-reads.ensures c.as_slice-parts.ensures.items c.part_among.ensures) c.entry_if-first.ensures;
+      second = given_sized c.args.net.now c.args.all.now reads 1 _ _ c.requires.allowed (part_from c.args.net.now c.args.part c.item_at.result c.parts_read-reads.result c.as_slice-parts.result.now 1 _ c.item_at.ensures c.parts_read-reads.ensures c.as_slice-parts.ensures.items c.part_among-2.ensures) c.entry_if-second.ensures;
+      third = given_sized c.args.net.now c.args.all.now reads 2 _ _ c.requires.allowed (part_from c.args.net.now c.args.part c.item_at.result c.parts_read-reads.result c.as_slice-parts.result.now 2 _ c.item_at.ensures c.parts_read-reads.ensures c.as_slice-parts.ensures.items c.part_among-3.ensures) c.entry_if-third.ensures;
     }

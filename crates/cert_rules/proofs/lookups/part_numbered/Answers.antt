@@ -1,5 +1,5 @@
-use Rattle.cert_rules.proofs.EntryFacts.{part_at-wire}
+use Rattle.cert_rules.proofs.EntryFacts.{part-wire}
 use Rattle.cert_rules.proofs.lookups.part_numbered.Goals as goal
 
 pub returns-clause-wire : goal.returns-clause-wire
-returns-clause-wire c = rw c.parts.ensures.parts (part_at-wire c.args.net.now c.args.part.0 c.requires)
+returns-clause-wire c = rw c.parts.ensures.parts (part-wire c.args.net.now c.args.part.0 _ c.requires)

@@ -1,20 +1,11 @@
-use Rattle.std.proofs.Common.{rules, ◌+◌, sym, ap, subst, ◌∙◌}
+use Rattle.std.proofs.Common.{rules, ◌+◌}
 use Rattle.text_words.specs.Lines.{lines_from}
 use Rattle.text_words.specs.Readers.{read_below}
 use Rattle.net_model.specs.Drafts.{data_of}
 use Rattle.net_text.specs.Names.{names_of}
-use Rattle.net_text.specs.Text.{GivesDraft, net_reader}
 use Rattle.net_text.proofs.NamePlaces.{wires_first}
 use Rattle.net_text.proofs.NamesKept.{names_go_on}
 use Rattle.net_text.proofs.reader.read_lines.Goals as goal
-
--- no line is left
-pub returns : goal.returns
-unfolding read_below
-returns c =
-    let reader = net_reader c.args.names.now in
-    let draft = data_of c.loop-line.draft in
-    subst (λ wanted. GivesDraft wanted c.behind_all.result) (sym (ap (read_below reader c.loop-line.above draft) c.in_default.ensures.lines) ∙ c.loop-line.invariant.same) (c.behind_all.ensures c.args.names.now)
 
 pub behind_line-requires-clause-first : goal.behind_line-requires-clause-first
 behind_line-requires-clause-first c =

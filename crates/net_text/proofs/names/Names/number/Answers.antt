@@ -3,6 +3,6 @@ use Rattle.std.specs.Prelude.{position, bytes_eq}
 use Rattle.net_text.proofs.NamePlaces.{position-map}
 use Rattle.net_text.proofs.names.Names.number.Goals as goal
 
-pub returns : goal.returns
-returns c =
-    rw (← c.self.view_is) (c.get_index_of.ensures.index ∙ position-map (λ k. k.now) (bytes_eq c.args.name.now) c.self.inside.numbers.keys ∙ ap (position (bytes_eq c.args.name.now)) c.self.invariant)
+pub returns-clause-value : goal.returns-clause-value
+returns-clause-value c =
+    rw (← c.self.view_is) (c.get_index_of.ensures.index ∙ position-map (λ k. k.now) (bytes_eq c.args.name.now) c.self.inside.numbers.keys ∙ ap (position (bytes_eq c.args.name.now)) c.self.invariant.0)

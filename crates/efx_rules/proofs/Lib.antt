@@ -1,0 +1,12 @@
+pub mod WordSteps
+pub mod BoundsFields
+pub mod NearestErrors
+pub mod WholeGains
+pub mod FilterValues
+pub mod FilterCornerHulls
+pub mod FilterSoundness
+pub mod FilterGrows
+pub mod AverageLaws
+pub mod KeptRules
+pub mod FilterArguments
+pub mod FilterExamples
