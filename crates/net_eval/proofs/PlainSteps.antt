@@ -1,5 +1,5 @@
 -- The steps of inputs, constants and delays, what delays keep, and the places of inputs.
-use Rattle.std.proofs.Common.{◌≡◌, ℕ, zero, suc, ◌+◌, ◌<◌, true, List, [], ◌∷◌, length, take, ℤ, refl, ap, ◌∙◌, subst, arith, cond, if◌then◌else◌}
+use Rattle.std.proofs.Common.{◌≡◌, ℕ, zero, suc, ◌+◌, ◌<◌, true, List, [], ◌∷◌, length, take, ℤ, refl, sym, ap, ap₂, ◌∙◌, subst, arith, cond, if◌then◌else◌}
 use Rattle.std.proofs.lemmas.Bool.{lt-leb}
 use Rattle.std.proofs.lemmas.List.Recursion.{is_count_by}
 use Rattle.net_model.specs.declared.wires.WireNo.{WireNo}
@@ -11,9 +11,8 @@ use Rattle.net_model.specs.Validity.{IsValid}
 use Rattle.net_model.proofs.ValidityFacts.{IsInKind, in_kind, const-valid, delay-valid}
 use Rattle.net_meaning.specs.Blocks.{machine}
 use Rattle.net_meaning.specs.Runs.{is_first, equation_of}
-use Rattle.net_eval.specs.declared.states.State.TheVariants.{Held}
 use Rattle.net_eval.specs.After.{held_after}
-use Rattle.net_eval.specs.States.{held_in}
+use Rattle.net_eval.specs.States.{MayHold, held_in, holding}
 use Rattle.net_eval.specs.Steps.{value_at}
 use Rattle.net_eval.proofs.FaithfulSteps.{IsFaithful, IsKeptRight, AreHeld, cells_of, value_at-values_in}
 
@@ -90,9 +89,11 @@ source_held net i init source all valid lt e held =
 pub delay_kept : (net : NetData) (i : ℕ) (init : ℤ) (source : WireNo) → IsValid net → i < length net.wires → (wire_at net.wires i).item ≡ Delay init source → IsKeptRight net i (Delay init source)
 delay_kept net i init source valid lt e = record {
   start = refl;
-  next = λ state inputs rows past kept. ap Held (value_at-values_in (cells_of net (inputs ∷ rows) past) source.0);
+  next = λ state inputs rows past kept. ap₂ holding kept (value_at-values_in (cells_of net (inputs ∷ rows) past) source.0);
   may_start = let first = in_kind _ _ (delay-valid net i init source valid lt e).holds in (refl, first.low, first.high);
   may_next = λ state values all held may.
-      let h = source_held net i init source all valid lt e held in (refl, h.low, h.high);
+      let h = source_held net i init source all valid lt e held in
+      let same = ap (λ s. holding s (value_at all source.0)) may.0 in
+      subst (MayHold (wire_at net.wires i).kind) (sym same) (refl, h.low, h.high);
   back = λ state may. refl;
 }

@@ -13,12 +13,12 @@ use Rattle.net_meaning.specs.Cells.{Cell, plain, cell_at}
 use Rattle.net_meaning.specs.Blocks.{machine}
 use Rattle.net_meaning.specs.Runs.{equation, row_of, table}
 use Rattle.net_eval.specs.declared.states.State.{State}
-use Rattle.net_eval.specs.declared.states.State.TheVariants.{Nothing, Held}
+use Rattle.net_eval.specs.declared.states.State.TheVariants.{Nothing}
 use Rattle.net_eval.specs.declared.resolving.Handover.{Handover}
 use Rattle.net_eval.specs.declared.steps.Step.{Step}
 use Rattle.net_eval.specs.declared.steps.Step.TheVariants.{Read}
 use Rattle.net_eval.specs.After.{PlanData, IsAfter, kept_on, kept_of, outputs_of}
-use Rattle.net_eval.specs.States.{AreKept, MayKeep, put_back, start_of, starts_of, state_at}
+use Rattle.net_eval.specs.States.{AreKept, MayKeep, holding, put_back, start_of, starts_of, state_at}
 use Rattle.net_eval.specs.Steps.{AreAmong, ArePlanned, AreReady, IsReady, handed, handed_over, handover_at, handover_of, handovers_of, step_of, steps_of, step_at, step_value, state_behind, kept_behind, states_of, value_at, values_of}
 use Rattle.net_eval.specs.Picking.{AreBelow}
 use Rattle.net_eval.specs.Typing.{AreTyped}
@@ -80,21 +80,21 @@ push_each xs x d P n len h here k lt =
 handed_both : (first second : List Handover) (values : List ℤ) (states : List State) → handed_over (first ++ second) values states ≡ handed_over second values (handed_over first values states)
 unfolding handed_over
 handed_both [] second values states = refl
-handed_both (h ∷ first) second values states = handed_both first second values (set states h.delay (Held (value_at values h.source)))
+handed_both (h ∷ first) second values states = handed_both first second values (set states h.delay (holding (state_at states h.delay) (value_at values h.source)))
 
 -- what is handed to a wire is kept for it, and for no other one
 handed_here : (n : ℕ) (item : Item) (values : List ℤ) (states : List State) → n < length states → state_at (handed_over (handover_of n item) values states) n ≡ handed item values (state_at states n)
 unfolding handed_over
 handed_here n (Input lo hi) values states lt = refl
 handed_here n (Const value) values states lt = refl
-handed_here n (Delay init source) values states lt = get_or-set_same states n (Held (value_at values source.0)) Nothing lt
+handed_here n (Delay init source) values states lt = get_or-set_same states n (holding (state_at states n) (value_at values source.0)) Nothing lt
 handed_here n (OfBlock b) values states lt = refl
 
 handed_other : (n k : ℕ) (item : Item) (values : List ℤ) (states : List State) → k ≢ n → state_at (handed_over (handover_of n item) values states) k ≡ state_at states k
 unfolding handed_over
 handed_other n k (Input lo hi) values states other = refl
 handed_other n k (Const value) values states other = refl
-handed_other n k (Delay init source) values states other = get_or-set_other states n k (Held (value_at values source.0)) Nothing other
+handed_other n k (Delay init source) values states other = get_or-set_other states n k (holding (state_at states n) (value_at values source.0)) Nothing other
 handed_other n k (OfBlock b) values states other = refl
 
 -- the states of all wires that were handed what is theirs

@@ -12,10 +12,10 @@ use Rattle.net_model.specs.Wires.{NetData, wire_at, no_wire, is_input, input_pla
 use Rattle.net_model.specs.Validity.{IsValid}
 use Rattle.net_model.proofs.ValidityFacts.{length-valid, outs-valid}
 use Rattle.net_eval.specs.declared.states.State.{State}
-use Rattle.net_eval.specs.declared.states.State.TheVariants.{Nothing, Held}
+use Rattle.net_eval.specs.declared.states.State.TheVariants.{Nothing}
 use Rattle.net_eval.specs.declared.steps.Step.{Step}
 use Rattle.net_eval.specs.declared.resolving.Handover.{Handover}
-use Rattle.net_eval.specs.States.{start_of, starts_of, state_at}
+use Rattle.net_eval.specs.States.{holding, start_of, starts_of, state_at}
 use Rattle.net_eval.specs.Steps.{handover_of, handovers_of, handed_over, handover_at, step_of, steps_of, step_at, step_value, state_behind, kept_behind, value_at, values_of, states_of}
 use Rattle.net_eval.specs.Picking.{AreBelow}
 use Rattle.net_eval.proofs.Listings.{list_push, list_set}
@@ -124,21 +124,28 @@ pub handed_none : (values : List ℤ) (states : List State) → states ≡ hande
 unfolding handed_over
 handed_none values states = refl
 
-pub handed_one : (handovers : List Handover) (h : Handover) (values : List ℤ) (states : List State) → set (handed_over handovers values states) h.delay (Held (value_at values h.source)) ≡ handed_over (handovers ++ h ∷ []) values states
+-- the states where one more delay was handed its source's value
+abbrev hand_one : Handover → List ℤ → List State → List State
+hand_one h values states = set states h.delay (holding (state_at states h.delay) (value_at values h.source))
+
+pub handed_one : (handovers : List Handover) (h : Handover) (values : List ℤ) (states : List State) → hand_one h values (handed_over handovers values states) ≡ handed_over (handovers ++ h ∷ []) values states
 unfolding handed_over
 handed_one [] h values states = refl
-handed_one (first ∷ rest) h values states = handed_one rest h values (set states first.delay (Held (value_at values first.source)))
+handed_one (first ∷ rest) h values states = handed_one rest h values (hand_one first values states)
 
-pub handed_push : (handovers : List Handover) (values : List ℤ) (states now : List State) (k : ℕ) (v : ℤ) → k < length handovers → v ≡ value_at values (handover_at handovers k).source → now ≡ handed_over (take k handovers) values states → set now (handover_at handovers k).delay (Held v) ≡ handed_over (take (k + 1) handovers) values states
-handed_push handovers values states now k v lt is e =
-    ap₂ (λ l n. set l (handover_at handovers k).delay (Held n)) e is
+pub handed_push : (handovers : List Handover) (values : List ℤ) (states now : List State) (k : ℕ) (v : ℤ) (old new : State) → k < length handovers → v ≡ value_at values (handover_at handovers k).source → old ≡ state_at now (handover_at handovers k).delay → new ≡ holding old v → now ≡ handed_over (take k handovers) values states → set now (handover_at handovers k).delay new ≡ handed_over (take (k + 1) handovers) values states
+handed_push handovers values states now k v old new lt is was made e =
+    ap (set now (handover_at handovers k).delay) (made ∙ ap₂ holding was is)
+    ∙ ap (hand_one (handover_at handovers k) values) e
     ∙ handed_one (take k handovers) (handover_at handovers k) values states
     ∙ ap (λ hs. handed_over hs values states) (sym (take_more handovers k (record { delay = 0; source = 0 }) lt))
 
 pub length-handed_over : (handovers : List Handover) (values : List ℤ) (states : List State) → length (handed_over handovers values states) ≡ length states
 unfolding handed_over
 length-handed_over [] values states = refl
-length-handed_over (h ∷ rest) values states = length-handed_over rest values (set states h.delay (Held (value_at values h.source))) ∙ length-set states h.delay (Held (value_at values h.source))
+length-handed_over (h ∷ rest) values states =
+    length-handed_over rest values (hand_one h values states)
+    ∙ length-set states h.delay (holding (state_at states h.delay) (value_at values h.source))
 
 -- what stands from one place on isn't touched by what is set before it
 pub rest_set : (states now : List State) (i : ℕ) (new : State) → ((k : ℕ) → i ≤ k → state_at now k ≡ state_at states k) → (k : ℕ) → i + 1 ≤ k → state_at (set now i new) k ≡ state_at states k

@@ -65,6 +65,15 @@ held_in (Lagging lag) = pos 0
 held_in (Differencing lag) = pos 0
 held_in (Averaging average) = pos 0
 
+-- what a delay keeps when it is handed a value; what holds nothing stays
+abbrev pub holding : State → ℤ → State
+holding Nothing value = Nothing
+holding (Held old) value = Held value
+holding (Gaining gain) value = Gaining gain
+holding (Lagging lag) value = Lagging lag
+holding (Differencing lag) value = Differencing lag
+holding (Averaging average) value = Averaging average
+
 -- what a filter answers in a row with this input; 0 where there is no filter
 abbrev pub filter_value : State → ℤ → ℤ
 filter_value Nothing input = pos 0

@@ -17,10 +17,9 @@ use Rattle.net_model.specs.Validity.{IsValid}
 use Rattle.net_meaning.specs.Blocks.{points_of}
 use Rattle.net_eval.specs.declared.resolving.Handover.{Handover}
 use Rattle.net_eval.specs.declared.states.State.{State}
-use Rattle.net_eval.specs.declared.states.State.TheVariants.{Held}
 use Rattle.net_eval.specs.declared.steps.Step.{Step}
 use Rattle.net_eval.specs.declared.steps.Step.TheVariants.{Read, Fixed, Delay as DelayStep, Arith as ArithStep, Scaled as ScaledStep, Filter as FilterStep}
-use Rattle.net_eval.specs.States.{state_at, held_in, filter_value, filter_after, TakesInput, AreKept}
+use Rattle.net_eval.specs.States.{state_at, held_in, holding, filter_value, filter_after, TakesInput, AreKept}
 
 -- ---- which steps a network has
 
@@ -116,14 +115,15 @@ states_of steps states inputs n = map (kept_behind steps states inputs) (range_w
 abbrev pub handed : Item → List ℤ → State → State
 handed (Input lo hi) values state = state
 handed (Const value) values state = state
-handed (Delay init source) values state = Held (value_at values source.0)
+handed (Delay init source) values state = holding state (value_at values source.0)
 handed (OfBlock b) values state = state
 
 -- the states where the delays were handed their sources' values
 unfoldable pub handed_over : List Handover → List ℤ → List State → List State
 handed_over [] values states = states
 handed_over (h ∷ handovers) values states =
-    handed_over handovers values (set states h.delay (Held (value_at values h.source)))
+    let held = holding (state_at states h.delay) (value_at values h.source) in
+    handed_over handovers values (set states h.delay held)
 
 -- handover number k, from 0
 abbrev pub handover_at : List Handover → ℕ → Handover

@@ -9,7 +9,7 @@ ghost use Rattle.net_eval.specs.Picking.{AreBelow};
 ghost use Rattle.net_eval.specs.Typing.{AreTyped};
 
 use crate::resolving::Handover;
-use crate::states::State;
+use crate::states::{State, hold};
 use crate::steps::{Step, step_value};
 use net_model::{Network, WireNo};
 
@@ -62,7 +62,7 @@ fn hand_over(handovers: &[Handover], values: &[i64], states: &mut [State])
 {
     for k in 0..handovers.len() {
         let Handover { delay, source } = handovers[k];
-        states[delay] = State::Held(values[source]);
+        hold(&mut states[delay], values[source]);
     }
 }
 

@@ -2,7 +2,7 @@
 
 ghost use Rattle.std.specs.Prelude.{◌≡◌, ◌<◌, IfOk, length};
 ghost use Rattle.net_model.specs.Validity.{IsValid};
-ghost use Rattle.net_eval.specs.States.{AreKept, CanStart, TakesInput, block_start, filter_after, filter_value, held_in, put_back, restarted, start_of, starts_of};
+ghost use Rattle.net_eval.specs.States.{AreKept, CanStart, TakesInput, block_start, filter_after, filter_value, held_in, holding, put_back, restarted, start_of, starts_of};
 
 use crate::resolving::item_at;
 use efx_filters::{Average, Dt1, Gain, Pt1};
@@ -126,6 +126,15 @@ pub(crate) fn held(state: &State) -> i64
         | State::Lagging(_)
         | State::Differencing(_)
         | State::Averaging(_) => 0,
+    }
+}
+
+/// Hands a delay the value that it answers in the next row; what holds nothing stays.
+pub(crate) fn hold(state: &mut State, value: i64)
+    ensures { state.new ≡ holding state.old value }
+{
+    if let State::Held(held) = state {
+        *held = value;
     }
 }
 
