@@ -8,7 +8,7 @@ use Rattle.fx_core.specs.Values.{Divides, rounded_fraction, unsaturated}
 use Rattle.net_model.specs.declared.wires.WireNo.{WireNo}
 use Rattle.net_model.specs.declared.wires.Kind.{Kind}
 use Rattle.net_model.specs.declared.wires.Block.{Block}
-use Rattle.net_model.specs.declared.wires.Block.TheVariants.{Arith, Scaled, Gain, Average, Pt1, Dt1}
+use Rattle.net_model.specs.declared.wires.Block.TheVariants.{Gain, Average, Pt1, Dt1}
 use Rattle.net_model.specs.declared.wires.Item.TheVariants.{Block as OfBlock}
 use Rattle.net_model.specs.declared.wires.Role.{Role}
 use Rattle.net_model.specs.declared.wires.Role.TheVariants.{Y, X1, X2, W, Value}
@@ -25,7 +25,7 @@ use Rattle.part_rules.specs.PartRules.{KeepsRule, PartRule, Reading, bounds_at, 
 use Rattle.cert_rules.specs.Rules.{argument_part, block_rule, copied_rule, held_wire, kept_reading, kept_rule_of, no_rule, part_on, state_rule_of, value_rule_of}
 use Rattle.cert_rules.specs.GivenBounds.{reading_at}
 use Rattle.cert_rules.specs.Soundness.{count_of, value_of}
-use Rattle.cert_rules.proofs.BlockRules.{FitReads, arith_reads, blocks_keep, plain_meaning, scaled_reads, values_keep_rules, values_read}
+use Rattle.cert_rules.proofs.BlockRules.{FitReads, plain_meaning, plain_reads, values_keep_rules, values_read}
 use Rattle.cert_rules.proofs.FilterBlocks.{average_within, difference_value_within, first_within, gain_within, lag_value_within, lag_within, second_within}
 use Rattle.cert_rules.proofs.PartValues.{IsReadWithin, PartKeeps, ReadsWithin, is_ruled, not_by_zero, within_at}
 use Rattle.cert_rules.proofs.Readings.{given_at}
@@ -75,10 +75,6 @@ HasState net i b rows m e =
 
 value_keeps : (net : NetData) (i : ℕ) (b : Block) (known : Part → Bounds) (rows : List (List ℤ)) (m : ℕ → ℕ → Cell ℤ) (e : ℕ → ℕ → Cell Fraction) (bounds : Bounds) → IsValid net → i < length net.wires → (wire_at net.wires i).item ≡ OfBlock b → HasState net i b rows m e → FitReads net (value_rule_of net i b).reads (bounds_read (value_rule_of net i b).reads known) → ReadsWithin net (value_rule_of net i b).reads known m e → given_by (value_rule_of net i b) known ≡ Some bounds → PartKeeps net i Value (OfBlock b) rows m e bounds
 unfolding equation_of machine machine_cell machine_state_of exact exact_cell state_formula quotient_of formula
-value_keeps net i (Arith op v x y z sh) known rows m e bounds valid h is state fit within given =
-    plain_keeps net i (Arith op v x y z sh) known rows m e bounds (arith_reads net i op v x y z sh) (values_keep_rules net i (Arith op v x y z sh) valid h is) (λ values. refl) refl refl fit within given
-value_keeps net i (Scaled op v x y) known rows m e bounds valid h is state fit within given =
-    plain_keeps net i (Scaled op v x y) known rows m e bounds (scaled_reads net i op v x y) (values_keep_rules net i (Scaled op v x y) valid h is) (λ values. refl) refl refl fit within given
 value_keeps net i (Gain xty ty x k) known rows m e bounds valid h is state fit within given =
     let r = is_ruled (value_rule_of net i (Gain xty ty x k)) known bounds given in
     record { machine_divides = tt; exact_divides = tt; within = rw r.same at (gain_within net i xty ty x k known rows m e within) }
@@ -98,6 +94,8 @@ value_keeps net i (Dt1 false xty ty x teq k) known rows m e bounds valid h is st
     let r = is_ruled (value_rule_of net i (Dt1 false xty ty x teq k)) known bounds given in
     let own = state refl in
     record { machine_divides = tt; exact_divides = tt; within = rw r.same at (difference_value_within net i false xty ty x teq k known rows m e own.0 own.1 within) }
+value_keeps net i other known rows m e bounds valid h is state fit within given =
+    plain_keeps net i other known rows m e bounds (plain_reads net i other refl) (values_keep_rules net i other valid h is) (λ values. refl) refl refl fit within given
 
 -- ---- the state of each block that has one
 
@@ -106,10 +104,6 @@ nothing_given b h = absurd (cc)
 
 state_keeps : (net : NetData) (i : ℕ) (b : Block) (known : Part → Bounds) (rows : List (List ℤ)) (m : ℕ → ℕ → Cell ℤ) (e : ℕ → ℕ → Cell Fraction) (bounds : Bounds) → (wire_at net.wires i).item ≡ OfBlock b → ReadsWithin net (state_rule_of i b).reads known m e → given_by (state_rule_of i b) known ≡ Some bounds → PartKeeps net i Y (OfBlock b) rows m e bounds
 unfolding quotient_of
-state_keeps net i (Arith op v x y z sh) known rows m e bounds is within given = nothing_given bounds given
-state_keeps net i (Scaled op v x y) known rows m e bounds is within given = nothing_given bounds given
-state_keeps net i (Gain xty ty x k) known rows m e bounds is within given = nothing_given bounds given
-state_keeps net i (Average xty ty x n) known rows m e bounds is within given = nothing_given bounds given
 state_keeps net i (Pt1 xty ty x teq k) known rows m e bounds is within given =
     let r = is_ruled (state_rule_of i (Pt1 xty ty x teq k)) known bounds given in
     record { machine_divides = tt; exact_divides = tt; within = rw r.same at (lag_within net i xty ty x teq k known rows m e is within) }
@@ -119,18 +113,17 @@ state_keeps net i (Dt1 true xty ty x teq k) known rows m e bounds is within give
 state_keeps net i (Dt1 false xty ty x teq k) known rows m e bounds is within given =
     let r = is_ruled (state_rule_of i (Dt1 false xty ty x teq k)) known bounds given in
     record { machine_divides = tt; exact_divides = tt; within = rw r.same at (first_within net i xty ty x teq k known rows m e is within) }
+state_keeps net i other known rows m e bounds is within given = nothing_given bounds given
 
 -- ---- what a block keeps of earlier rows
 
 -- a block that keeps something divides by nothing
 keeper_divides : (net : NetData) (kind : Kind) (b : Block) (role : Role) (values : ℕ → ℕ → Fraction) → has_role role (Value ∷ []) ≡ false → has_role role (block_roles b) ≡ true → Divides (quotient_of net kind b values)
 unfolding quotient_of
-keeper_divides net kind (Arith op v x y z sh) role values none has = absurd (false≢true (sym none ∙ has))
-keeper_divides net kind (Scaled op v x y) role values none has = absurd (false≢true (sym none ∙ has))
-keeper_divides net kind (Gain xty ty x k) role values none has = tt
 keeper_divides net kind (Average xty ty x n) role values none has = tt
 keeper_divides net kind (Pt1 xty ty x teq k) role values none has = tt
 keeper_divides net kind (Dt1 second xty ty x teq k) role values none has = tt
+keeper_divides net kind other role values none has = absurd (false≢true (sym none ∙ has))
 
 -- what is held of the wire of a block that keeps values of another
 abbrev IsCopied : NetData → ℕ → Block → Role → (Part → Bounds) → (ℕ → ℕ → Cell ℤ) → (ℕ → ℕ → Cell Fraction) → Type 0

@@ -58,7 +58,7 @@ use Rattle.cert_rules.proofs.FilterBlocks.{mean_meaning, means_keep}
 abbrev pub values_read : Block → List (Reading Part)
 values_read b = map (λ w. read_now (value_part w.0)) (form_of b).wires
 
-pub arith_reads : (net : NetData) (i : ℕ) (op : ArithOp) (v : Variant) (x y z : WireNo) (sh : ℕ) → (value_rule_of net i (Arith op v x y z sh)).reads ≡ values_read (Arith op v x y z sh)
+arith_reads : (net : NetData) (i : ℕ) (op : ArithOp) (v : Variant) (x y z : WireNo) (sh : ℕ) → (value_rule_of net i (Arith op v x y z sh)).reads ≡ values_read (Arith op v x y z sh)
 unfolding form_of signature_of
 arith_reads net i Abs v x y z sh = refl
 arith_reads net i MulDiv v x y z sh = refl
@@ -68,7 +68,7 @@ arith_reads net i Max v x y z sh = refl
 arith_reads net i RateLimiter v x y z sh = refl
 arith_reads net i other v x y z sh = refl
 
-pub scaled_reads : (net : NetData) (i : ℕ) (op : ScaledOp) (v : Variant) (x y : WireNo) → (value_rule_of net i (Scaled op v x y)).reads ≡ values_read (Scaled op v x y)
+scaled_reads : (net : NetData) (i : ℕ) (op : ScaledOp) (v : Variant) (x y : WireNo) → (value_rule_of net i (Scaled op v x y)).reads ≡ values_read (Scaled op v x y)
 unfolding form_of signature_of
 scaled_reads net i Convert v x y = refl
 scaled_reads net i other v x y = refl
@@ -76,6 +76,17 @@ scaled_reads net i other v x y = refl
 gain_reads : (net : NetData) (i : ℕ) (xty ty : Ty) (x : WireNo) (k : ℤ) → (value_rule_of net i (Gain xty ty x k)).reads ≡ values_read (Gain xty ty x k)
 unfolding form_of signature_of
 gain_reads net i xty ty x k = refl
+
+-- a block that reads the values of its wires, and whose value means its formula at these
+abbrev pub is_plain : Block → Bool
+is_plain (Arith op v x y z sh) = true
+is_plain (Scaled op v x y) = true
+is_plain other = false
+
+pub plain_reads : (net : NetData) (i : ℕ) (b : Block) → is_plain b ≡ true → (value_rule_of net i b).reads ≡ values_read b
+plain_reads net i (Arith op v x y z sh) plain = arith_reads net i op v x y z sh
+plain_reads net i (Scaled op v x y) plain = scaled_reads net i op v x y
+plain_reads net i other plain = absurd (true≢false (sym plain))
 
 same_parts : (reads : List (Reading Part)) (wires : List WireNo) → reads ≡ map (λ w. read_now (value_part w.0)) wires → map (λ w. value_part w.0) wires ≡ parts_in reads
 same_parts reads wires e = parts_of wires ∙ ap parts_in (sym e)

@@ -5,12 +5,9 @@ use Rattle.std.specs.List.{list_any}
 use Rattle.std.proofs.Common.{refl, ap, sym, ◌∙◌, cond, subst, arith, inl, inr, ◌⊎◌}
 use Rattle.fx_core.specs.declared.word_type.Ty.{Ty}
 use Rattle.fx_core.specs.Arguments.{three, two}
-use Rattle.fx_routines.specs.declared.operation.ArithOp.{ArithOp}
-use Rattle.fx_routines.specs.declared.operation.ScaledOp.{ScaledOp}
-use Rattle.fx_routines.specs.declared.operation.Variant.{Variant}
 use Rattle.net_model.specs.declared.wires.WireNo.{WireNo}
 use Rattle.net_model.specs.declared.wires.Block.{Block}
-use Rattle.net_model.specs.declared.wires.Block.TheVariants.{Arith, Scaled, Gain, Average, Pt1, Dt1}
+use Rattle.net_model.specs.declared.wires.Block.TheVariants.{Gain, Average, Pt1, Dt1}
 use Rattle.net_model.specs.declared.wires.Item.{Item}
 use Rattle.net_model.specs.declared.wires.Item.TheVariants.{Block as OfBlock}
 use Rattle.net_model.specs.declared.wires.Role.{Role}
@@ -29,7 +26,7 @@ use Rattle.efx_rules.proofs.FilterArguments.{average_bounds_of_two, difference_b
 use Rattle.cert_rules.specs.declared.lookups.Given.{Given}
 use Rattle.cert_rules.specs.Rules.{block_rule, held_wire, holder, kept_rule_of, kept_wire, no_rule, state_rule_of, value_rule_of}
 use Rattle.cert_rules.specs.GivenBounds.{AreGiven, AreSized, IsSized, if_sized, reading_at, value_part}
-use Rattle.cert_rules.proofs.BlockRules.{arith_reads, scaled_reads, values_read}
+use Rattle.cert_rules.proofs.BlockRules.{is_plain, plain_reads, values_read}
 use Rattle.cert_rules.proofs.RuleFacts.{kept_returns}
 
 -- ---- the parts of a block by their roles
@@ -86,12 +83,10 @@ kept_holder net part item b wire kept is case e = e ∙ sym (by_role part.role k
 
 -- it is one of the network
 kept_below : (net : NetData) (i : ℕ) (b : Block) → IsValid net → i < length net.wires → (wire_at net.wires i).item ≡ OfBlock b → kept_wire i b < length net.wires
-kept_below net i (Arith op v x y z sh) valid h is = h
-kept_below net i (Scaled op v x y) valid h is = h
-kept_below net i (Gain xty ty x k) valid h is = h
 kept_below net i (Average xty ty x n) valid h is = let below = argument_of-valid net i (Average xty ty x n) valid h is 0 in omega (arith, below)
 kept_below net i (Pt1 xty ty x teq k) valid h is = let below = argument_of-valid net i (Pt1 xty ty x teq k) valid h is 0 in omega (arith, below)
 kept_below net i (Dt1 second xty ty x teq k) valid h is = let below = argument_of-valid net i (Dt1 second xty ty x teq k) valid h is 0 in omega (arith, below)
+kept_below net i other valid h is = h
 
 pub kept_there : (net : NetData) (part : Part) (item : Item) (b : Block) (wire : ℕ) → IsValid net → part.wire.0 < length net.wires → item ≡ (wire_at net.wires part.wire.0).item → item ≡ OfBlock b → wire ≡ kept_wire part.wire.0 b → wire < length net.wires
 kept_there net part item b wire valid h is case e = rw e (kept_below net part.wire.0 b valid h (sym is ∙ case))
@@ -146,13 +141,8 @@ pub value_sized : (net : NetData) (i : ℕ) (b : Block) (given : Given) → AreS
 unfolding block_rule
 value_sized net i b given s = s
 
-pub arith_small : (net : NetData) (i : ℕ) (b : Block) (op : ArithOp) (v : Variant) (x y z : WireNo) (sh : ℕ) (given : Given) → AreSized (block_rule net i b Value).reads given → b ≡ Arith op v x y z sh → AreSmall given
-arith_small net i b op v x y z sh given sized is =
-    values_small (Arith op v x y z sh) _ given (arith_reads net i op v x y z sh) (value_sized net i (Arith op v x y z sh) given (rw is at sized))
-
-pub scaled_small : (net : NetData) (i : ℕ) (b : Block) (op : ScaledOp) (v : Variant) (x y : WireNo) (given : Given) → AreSized (block_rule net i b Value).reads given → b ≡ Scaled op v x y → AreSmall given
-scaled_small net i b op v x y given sized is =
-    values_small (Scaled op v x y) _ given (scaled_reads net i op v x y) (value_sized net i (Scaled op v x y) given (rw is at sized))
+pub plain_small : (net : NetData) (i : ℕ) (b : Block) (given : Given) → AreSized (block_rule net i b Value).reads given → is_plain b ≡ true → AreSmall given
+plain_small net i b given sized plain = values_small b _ given (plain_reads net i b plain) (value_sized net i b given sized)
 
 pub gain_small : (net : NetData) (i : ℕ) (b : Block) (xty ty : Ty) (x : WireNo) (k : ℤ) (given : Given) → AreSized (block_rule net i b Value).reads given → b ≡ Gain xty ty x k → IsSmall given.first
 gain_small net i b xty ty x k given sized is = (value_sized net i (Gain xty ty x k) given (rw is at sized)).first

@@ -4,7 +4,7 @@ use Rattle.std.proofs.Common.{◌≡◌, ℕ, zero, suc, ◌+◌, ◌*◌, ◌<�
 use Rattle.std.specs.Prelude.{IsTrue, Some}
 use Rattle.fx_core.specs.declared.word_type.Ty.{Ty}
 use Rattle.net_model.specs.declared.wires.Block.{Block}
-use Rattle.net_model.specs.declared.wires.Block.TheVariants.{Arith, Scaled, Gain, Average, Pt1, Dt1}
+use Rattle.net_model.specs.declared.wires.Block.TheVariants.{Gain, Average, Pt1, Dt1}
 use Rattle.net_model.specs.declared.wires.Item.{Item}
 use Rattle.net_model.specs.declared.wires.Item.TheVariants.{Input, Const, Delay, Block as OfBlock}
 use Rattle.net_model.specs.declared.wires.Role.{Role}
@@ -25,7 +25,7 @@ use Rattle.cert_rules.specs.Acceptance.{start_of}
 use Rattle.cert_rules.specs.GivenBounds.{reading_at, value_part}
 use Rattle.cert_rules.specs.Soundness.{IsUnderWay}
 use Rattle.net_meaning.specs.Runs.{is_first}
-use Rattle.cert_rules.proofs.BlockRules.{arith_reads, scaled_reads, values_read}
+use Rattle.cert_rules.proofs.BlockRules.{plain_reads, values_read}
 
 -- ---- the order of parts: by wires, a wire's states before its value
 
@@ -135,8 +135,6 @@ has_if : (net : NetData) (i : ℕ) (b : Block) (role : Role) → (wire_at net.wi
 has_if net i b role is has = rw is has
 
 value_orderly : (net : NetData) (i : ℕ) (b : Block) → IsValid net → i < length net.wires → (wire_at net.wires i).item ≡ OfBlock b → AreOrderly net (part_on i Value) (value_rule_of net i b).reads
-value_orderly net i (Arith op v x y z sh) valid h is = values_orderly net i (Arith op v x y z sh) _ valid h is (arith_reads net i op v x y z sh)
-value_orderly net i (Scaled op v x y) valid h is = values_orderly net i (Scaled op v x y) _ valid h is (scaled_reads net i op v x y)
 value_orderly net i (Gain xty ty x k) valid h is =
     one_orderly net (part_on i Value) _ (earlier_is_orderly net i x.0 Value h (argument_of-valid net i (Gain xty ty x k) valid h is 0))
 value_orderly net i (Average xty ty x n) valid h is =
@@ -144,12 +142,9 @@ value_orderly net i (Average xty ty x n) valid h is =
 value_orderly net i (Pt1 xty ty x teq k) valid h is = one_orderly net (part_on i Value) _ (own_is_orderly net i h (has_if net i (Pt1 xty ty x teq k) Y is refl))
 value_orderly net i (Dt1 true xty ty x teq k) valid h is = one_orderly net (part_on i Value) _ (own_is_orderly net i h (has_if net i (Dt1 true xty ty x teq k) Y is refl))
 value_orderly net i (Dt1 false xty ty x teq k) valid h is = one_orderly net (part_on i Value) _ (own_is_orderly net i h (has_if net i (Dt1 false xty ty x teq k) Y is refl))
+value_orderly net i other valid h is = values_orderly net i other _ valid h is (plain_reads net i other refl)
 
 state_orderly : (net : NetData) (i : ℕ) (b : Block) → IsValid net → i < length net.wires → (wire_at net.wires i).item ≡ OfBlock b → AreOrderly net (part_on i Y) (state_rule_of i b).reads
-state_orderly net i (Arith op v x y z sh) valid h is = none_orderly net (part_on i Y)
-state_orderly net i (Scaled op v x y) valid h is = none_orderly net (part_on i Y)
-state_orderly net i (Gain xty ty x k) valid h is = none_orderly net (part_on i Y)
-state_orderly net i (Average xty ty x n) valid h is = none_orderly net (part_on i Y)
 state_orderly net i (Pt1 xty ty x teq k) valid h is =
     let b = Pt1 xty ty x teq k in
     two_orderly net (part_on i Y) _ _ (kept_is_orderly net i Y Y h (has_if net i b Y is refl) refl) (kept_is_orderly net i Y X1 h (has_if net i b X1 is refl) refl)
@@ -159,25 +154,19 @@ state_orderly net i (Dt1 true xty ty x teq k) valid h is =
 state_orderly net i (Dt1 false xty ty x teq k) valid h is =
     let b = Dt1 false xty ty x teq k in
     three_orderly net (part_on i Y) _ _ _ (kept_is_orderly net i Y Y h (has_if net i b Y is refl) refl) (kept_is_orderly net i Y X1 h (has_if net i b X1 is refl) refl) (kept_is_orderly net i Y X2 h (has_if net i b X2 is refl) refl)
+state_orderly net i other valid h is = none_orderly net (part_on i Y)
 
 -- the input that a block keeps is an earlier wire
 kept_earlier : (net : NetData) (i : ℕ) (b : Block) (role : Role) → IsValid net → i < length net.wires → (wire_at net.wires i).item ≡ OfBlock b → has_role role (Value ∷ []) ≡ false → has_role role (block_roles b) ≡ true → kept_wire i b < i
-kept_earlier net i (Arith op v x y z sh) role valid h is none has = absurd (true≢false (sym has ∙ none))
-kept_earlier net i (Scaled op v x y) role valid h is none has = absurd (true≢false (sym has ∙ none))
-kept_earlier net i (Gain xty ty x k) role valid h is none has = absurd (true≢false (sym has ∙ none))
 kept_earlier net i (Average xty ty x n) role valid h is none has = argument_of-valid net i (Average xty ty x n) valid h is 0
 kept_earlier net i (Pt1 xty ty x teq k) role valid h is none has = argument_of-valid net i (Pt1 xty ty x teq k) valid h is 0
 kept_earlier net i (Dt1 second xty ty x teq k) role valid h is none has = argument_of-valid net i (Dt1 second xty ty x teq k) valid h is 0
+kept_earlier net i other role valid h is none has = absurd (true≢false (sym has ∙ none))
 
 -- a block that keeps the input for two rows keeps it for one
 keeps_both : (b : Block) → has_role X2 (block_roles b) ≡ true → has_role X1 (block_roles b) ≡ true
-keeps_both (Arith op v x y z sh) has = absurd (cc)
-keeps_both (Scaled op v x y) has = absurd (cc)
-keeps_both (Gain xty ty x k) has = absurd (cc)
-keeps_both (Average xty ty x n) has = absurd (cc)
-keeps_both (Pt1 xty ty x teq k) has = absurd (cc)
-keeps_both (Dt1 true xty ty x teq k) has = absurd (cc)
 keeps_both (Dt1 false xty ty x teq k) has = refl
+keeps_both other has = absurd (cc)
 
 kept_orderly : (net : NetData) (i : ℕ) (b : Block) (role : Role) (has : Bool) → has_role role (block_roles b) ≡ has → has_role role (Value ∷ []) ≡ false → (has_role role (block_roles b) ≡ true → IsOrderly net (part_on i role) (kept_reading i b role)) → AreOrderly net (part_on i role) (kept_rule_of i b role).reads
 kept_orderly net i b role true is none orderly = rw is (one_orderly net (part_on i role) (kept_reading i b role) (orderly is))

@@ -285,3 +285,13 @@ average_kept net i xty ty x n valid lt e =
       may_next = λ state values all held may. same_filter state _ ∙ may;
       back = λ state may. may;
     }
+
+-- ---- a block without a state
+
+-- what isn't a filter starts with nothing
+pub stateless_start : (b : Block) → ((xty ty : Ty) (x : WireNo) (k : ℤ) → b ≡ Gain xty ty x k → ⊥) → ((xty ty : Ty) (x : WireNo) (n : ℕ) → b ≡ Average xty ty x n → ⊥) → ((xty ty : Ty) (x : WireNo) (teq : ℕ) (k : ℤ) → b ≡ Pt1 xty ty x teq k → ⊥) → ((second : Bool) (xty ty : Ty) (x : WireNo) (teq : ℕ) (k : ℤ) → b ≡ Dt1 second xty ty x teq k → ⊥) → Nothing ≡ block_start b
+stateless_start (Gain xty ty x k) gain average lag difference = absurd (gain xty ty x k refl)
+stateless_start (Average xty ty x n) gain average lag difference = absurd (average xty ty x n refl)
+stateless_start (Pt1 xty ty x teq k) gain average lag difference = absurd (lag xty ty x teq k refl)
+stateless_start (Dt1 second xty ty x teq k) gain average lag difference = absurd (difference second xty ty x teq k refl)
+stateless_start other gain average lag difference = refl

@@ -6,7 +6,7 @@ use Rattle.fx_core.specs.Types.{Holds}
 use Rattle.efx_filters.specs.States.{gain_start, gain_after, gain_value, pt1_start, pt1_after, pt1_value, dt1_start, dt1_after, dt1_value, average_start, average_after, average_value}
 use Rattle.net_model.specs.declared.wires.Kind.{Kind}
 use Rattle.net_model.specs.declared.wires.Block.{Block}
-use Rattle.net_model.specs.declared.wires.Block.TheVariants.{Arith, Scaled, Gain, Average, Pt1, Dt1}
+use Rattle.net_model.specs.declared.wires.Block.TheVariants.{Gain, Average, Pt1, Dt1}
 use Rattle.net_model.specs.declared.wires.Item.{Item}
 use Rattle.net_model.specs.declared.wires.Item.TheVariants.{Input, Const, Delay, Block as OfBlock}
 use Rattle.net_model.specs.Wires.{NetData, wire_at, kind_least, kind_greatest}
@@ -19,12 +19,11 @@ use Rattle.net_eval.specs.declared.states.State.TheVariants.{Nothing, Held, Gain
 
 -- what a block starts with
 abbrev pub block_start : Block → State
-block_start (Arith op v x y z shift) = Nothing
-block_start (Scaled op v x y) = Nothing
 block_start (Gain xty ty x k) = Gaining (gain_start xty ty k)
 block_start (Average xty ty x n) = Averaging (average_start xty ty n)
 block_start (Pt1 xty ty x teq k) = Lagging (pt1_start xty ty teq k)
 block_start (Dt1 second xty ty x teq k) = Differencing (dt1_start second xty ty teq k)
+block_start other = Nothing
 
 -- what wire i keeps before the first row, by its item: a delay its first answer
 abbrev pub item_start : NetData → ℕ → Item → State
@@ -43,12 +42,10 @@ starts_of net n = map (start_of net) (range_with_len 0 n)
 
 -- the numbers of a block are such that it can start
 abbrev pub CanStart : Block → Type 0
-CanStart (Arith op v x y z shift) = Unit {0}
-CanStart (Scaled op v x y) = Unit {0}
-CanStart (Gain xty ty x k) = Unit {0}
 CanStart (Average xty ty x n) = (1 ≤ n) × (n ≤ 1024)
 CanStart (Pt1 xty ty x teq k) = teq ≤ 65536
 CanStart (Dt1 second xty ty x teq k) = teq ≤ 65536
+CanStart other = Unit {0}
 
 -- ---- one state
 
@@ -130,8 +127,6 @@ last_values cells wire n = map (value_ago cells wire) (range_with_len 0 n)
 -- what a block of wire i keeps: a lag its state Y and the input of the newest row, a differentiating one also the input of the
 -- row before it, an average over n rows the inputs of the last n - 1
 abbrev pub block_kept : List (List (Cell ℤ)) → ℕ → Block → State
-block_kept cells i (Arith op v x y z shift) = Nothing
-block_kept cells i (Scaled op v x y) = Nothing
 block_kept cells i (Gain xty ty x k) = Gaining (gain_start xty ty k)
 block_kept cells i (Average xty ty x n) =
     Averaging (record { x = xty; o = ty; n = n; window = last_values cells x.0 (n - 1) })
@@ -153,6 +148,7 @@ block_kept cells i (Dt1 second xty ty x teq k) = Differencing (record {
   x1 = value_ago cells x.0 0;
   x2 = value_ago cells x.0 1;
 })
+block_kept cells i other = Nothing
 
 -- ---- what a wire may keep
 

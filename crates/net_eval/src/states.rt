@@ -58,7 +58,6 @@ fn block_start(alloc: Global, block: Block) -> Result<State, AllocError>
     ensures { IfOk result (λ state. state ≡ block_start block) }
 {
     match block {
-        Block::Arith { .. } | Block::Scaled { .. } => Ok(State::Nothing),
         Block::Gain { xty, ty, k, .. } => Ok(State::Gaining(Gain::new(xty, ty, k))),
         Block::Average { xty, ty, n, .. } => {
             Ok(State::Averaging(Average::new(alloc, xty, ty, n)?))
@@ -78,6 +77,7 @@ fn block_start(alloc: Global, block: Block) -> Result<State, AllocError>
             k,
             ..
         } => Ok(State::Differencing(Dt1::new(second, xty, ty, teq, k))),
+        _ => Ok(State::Nothing),
     }
 }
 

@@ -1,8 +1,8 @@
 use Rattle.std.proofs.Common.{ap, sym, inl, inr, rules, w32}
 use Rattle.std.proofs.lemmas.Int.{to_z-of_z}
 use Rattle.net_model.specs.Wires.{argument_of}
-use Rattle.cert_rules.proofs.BlockRules.{arith_returns, arith_there, scaled_points, scaled_returns}
-use Rattle.cert_rules.proofs.GivenFacts.{arith_small, average_returns, average_small, dt1_returns, dt1_state, gain_returns, gain_small, pt1_returns, pt1_state, scaled_small}
+use Rattle.cert_rules.proofs.BlockRules.{arith_returns, arith_there, is_plain, scaled_points, scaled_returns}
+use Rattle.cert_rules.proofs.GivenFacts.{average_returns, average_small, dt1_returns, dt1_state, gain_returns, gain_small, plain_small, pt1_returns, pt1_state}
 use Rattle.cert_rules.proofs.RuleFacts.{argument_there}
 use Rattle.cert_rules.proofs.ruling.value_bounds.Goals as goal
 
@@ -15,13 +15,13 @@ operation_bounds-requires-clause-shift c =
     (arith_there c.args.net.now c.args.wire.0 c.args.block.now _ _ _ _ _ _ c.requires.valid c.requires.there c.requires.block c.in-Arith.is).1
 
 pub operation_bounds-requires-clause-first : goal.operation_bounds-requires-clause-first
-operation_bounds-requires-clause-first c = (arith_small c.args.net.now c.args.wire.0 c.args.block.now _ _ _ _ _ _ c.args.given c.requires.sized c.in-Arith.is).first
+operation_bounds-requires-clause-first c = (plain_small c.args.net.now c.args.wire.0 c.args.block.now c.args.given c.requires.sized (ap is_plain c.in-Arith.is)).first
 
 pub operation_bounds-requires-clause-second : goal.operation_bounds-requires-clause-second
-operation_bounds-requires-clause-second c = (arith_small c.args.net.now c.args.wire.0 c.args.block.now _ _ _ _ _ _ c.args.given c.requires.sized c.in-Arith.is).second
+operation_bounds-requires-clause-second c = (plain_small c.args.net.now c.args.wire.0 c.args.block.now c.args.given c.requires.sized (ap is_plain c.in-Arith.is)).second
 
 pub operation_bounds-requires-clause-third : goal.operation_bounds-requires-clause-third
-operation_bounds-requires-clause-third c = (arith_small c.args.net.now c.args.wire.0 c.args.block.now _ _ _ _ _ _ c.args.given c.requires.sized c.in-Arith.is).third
+operation_bounds-requires-clause-third c = (plain_small c.args.net.now c.args.wire.0 c.args.block.now c.args.given c.requires.sized (ap is_plain c.in-Arith.is)).third
 
 pub point_at-requires-clause-there : goal.point_at-requires-clause-there
 point_at-requires-clause-there c =
@@ -32,10 +32,10 @@ point_at-requires-in-Scaled-clause-there c =
     argument_there c.args.net.now c.args.wire.0 c.args.block.now 1 _ c.requires.valid c.requires.there c.requires.block (sym (ap (λ b. argument_of b 1) c.in-Scaled.is))
 
 pub form_bounds-requires-clause-first : goal.form_bounds-requires-clause-first
-form_bounds-requires-clause-first c = (scaled_small c.args.net.now c.args.wire.0 c.args.block.now _ _ _ _ c.args.given c.requires.sized c.in-Scaled.is).first
+form_bounds-requires-clause-first c = (plain_small c.args.net.now c.args.wire.0 c.args.block.now c.args.given c.requires.sized (ap is_plain c.in-Scaled.is)).first
 
 pub form_bounds-requires-clause-second : goal.form_bounds-requires-clause-second
-form_bounds-requires-clause-second c = (scaled_small c.args.net.now c.args.wire.0 c.args.block.now _ _ _ _ c.args.given c.requires.sized c.in-Scaled.is).second
+form_bounds-requires-clause-second c = (plain_small c.args.net.now c.args.wire.0 c.args.block.now c.args.given c.requires.sized (ap is_plain c.in-Scaled.is)).second
 
 pub gain_bounds-requires : goal.gain_bounds-requires
 gain_bounds-requires c = gain_small c.args.net.now c.args.wire.0 c.args.block.now _ _ _ _ c.args.given c.requires.sized c.in-Gain.is
