@@ -1,19 +1,19 @@
 -- What an accepted certificate says of the entry of a part.
-use Rattle.std.proofs.Common.{◌≡◌, ℕ, ◌<◌, Bool, true, ◌&&◌, get_or, List, ℤ, pos, ◌≤ℤ◌, int_le, refl, sym, ap, subst, arith}
+use Rattle.std.proofs.Common.{◌≡◌, true, ◌&&◌, List, ℤ, pos, ◌≤ℤ◌, int_le, refl, subst, arith}
 use Rattle.std.specs.Prelude.{Option, Some, None, IsTrue}
 use Rattle.std.proofs.lemmas.Bool.{and_parts, false≢true}
 use Rattle.fx_fraction.specs.Fraction.{Fraction, whole, over, distance}
 use Rattle.fx_fraction.proofs.Order.{AtMost_trans, AtMost-over}
 use Rattle.fx_fraction.proofs.WholeNumbers.{int_le-true, int_le_trans}
 use Rattle.net_model.specs.declared.wires.Part.{Part}
-use Rattle.net_model.specs.Wires.{NetData, wire_at, parts_of}
+use Rattle.net_model.specs.Wires.{NetData, wire_at}
 use Rattle.part_rules.specs.declared.bounds.Bounds.{Bounds}
 use Rattle.part_rules.specs.Within.{IsWithin}
 use Rattle.part_rules.specs.PartRules.{LiesInside}
 use Rattle.part_rules.proofs.Within.{whole_within}
 use Rattle.cert_rules.specs.Rules.{least_of_part, greatest_of_part, rule_of}
 use Rattle.cert_rules.specs.Certificates.{IsPart, entry_of}
-use Rattle.cert_rules.specs.Acceptance.{Accepts, entry_at, is_allowed_at, is_allowed_entry, is_inductive_at, is_inductive_entry, lies_inside, part_at, start_of, starts_inside}
+use Rattle.cert_rules.specs.Acceptance.{Accepts, entry_at, is_allowed_at, is_allowed_entry, is_inductive_at, is_inductive_entry, lies_inside, start_of, starts_inside}
 use Rattle.cert_rules.proofs.EntryFacts.{allowed_entry, are_between}
 use Rattle.cert_rules.proofs.Readings.{has_number}
 use Rattle.cert_rules.proofs.RuleSoundness.{rule_gift}

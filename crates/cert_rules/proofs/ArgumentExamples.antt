@@ -1,6 +1,6 @@
 -- What the rules of a worked network read: the sum takes its arguments against their order, the product takes one twice,
 -- and a second argument that the absolute value doesn't have isn't read.
-use Rattle.std.specs.Prelude.{◌≡◌, List, [], ◌∷◌, pos, refl, codes}
+use Rattle.std.specs.Prelude.{◌≡◌, [], ◌∷◌, pos, refl, codes}
 use Rattle.fx_core.specs.declared.word_type.Ty.TheVariants.{S16}
 use Rattle.fx_routines.specs.declared.operation.ArithOp.TheVariants.{Add, Mul, Abs}
 use Rattle.fx_routines.specs.declared.operation.Variant.{Variant}

@@ -1,5 +1,5 @@
 -- How the part of a number among those that a rule reads is found, one part at a time.
-use Rattle.std.proofs.Common.{◌≡◌, ℕ, suc, ◌+◌, ◌-◌, ◌<◌, ◌≤◌, Bool, true, false, ◌&&◌, ◌||◌, ◌==◌, cond, List, [], ◌∷◌, map, length, slice_get, refl, sym, ap, ap₂, ◌∙◌, subst, arith, Option, Some, None, Fits, w32, Fits-le}
+use Rattle.std.proofs.Common.{◌≡◌, ℕ, suc, ◌+◌, ◌-◌, ◌<◌, ◌≤◌, Bool, true, false, ◌||◌, cond, List, [], ◌∷◌, length, slice_get, refl, sym, ap, ◌∙◌, subst, arith, Option, Some, None, Fits, w32, Fits-le}
 use Rattle.std.specs.List.{list_any}
 use Rattle.net_model.specs.declared.wires.PartNo.{PartNo}
 use Rattle.net_model.specs.declared.wires.Item.{Item}

@@ -1,11 +1,9 @@
 -- What the equation of a block's wire makes is within what the rule of each of its parts gives, block by block.
-use Rattle.std.specs.Prelude.{◌≡◌, ℕ, ◌<◌, ◌≤◌, Bool, true, false, List, [], ◌∷◌, map, length, ℤ, pos, IsTrue, Option, Some, None}
-use Rattle.std.proofs.Common.{refl, ap, sym, ◌∙◌, subst, arith, cond}
+use Rattle.std.specs.Prelude.{◌≡◌, ℕ, ◌<◌, ◌≤◌, Bool, true, false, List, [], ◌∷◌, length, ℤ, pos, IsTrue, Option, Some, None}
+use Rattle.std.proofs.Common.{refl, ap, sym, ◌∙◌, subst, arith}
 use Rattle.std.proofs.lemmas.Bool.{false≢true}
 use Rattle.fx_fraction.specs.Fraction.{Fraction, whole}
-use Rattle.fx_core.specs.declared.word_type.Ty.{Ty}
-use Rattle.fx_core.specs.Values.{Divides, rounded_fraction, unsaturated}
-use Rattle.net_model.specs.declared.wires.WireNo.{WireNo}
+use Rattle.fx_core.specs.Values.{Divides, unsaturated}
 use Rattle.net_model.specs.declared.wires.Kind.{Kind}
 use Rattle.net_model.specs.declared.wires.Block.{Block}
 use Rattle.net_model.specs.declared.wires.Block.TheVariants.{Gain, Average, Pt1, Dt1}

@@ -1,14 +1,12 @@
 -- The rules of blocks, family by family: what they read, that they are kept, and what the equations of their wires make. No
 -- other proof here names a family but that of the filters.
-use Rattle.std.specs.Prelude.{Option, Some, None, IsTrue}
-use Rattle.std.proofs.Common.{ap₂, ◌≡◌, ℕ, zero, suc, ◌<◌, ◌≤◌, Bool, true, false, not, ◌||◌, cond, List, [], ◌∷◌, map, length, ℤ, pos, ◌≤ℤ◌, refl, sym, ap, ◌∙◌, subst, arith, true≢false}
-use Rattle.fx_fraction.specs.Fraction.{Fraction, whole}
-use Rattle.fx_fraction.proofs.WholeNumbers.{int_le_refl}
+use Rattle.std.specs.Prelude.{Option, None}
+use Rattle.std.proofs.Common.{ap₂, ◌≡◌, ℕ, ◌<◌, ◌≤◌, Bool, true, false, cond, List, [], ◌∷◌, map, length, ℤ, pos, ◌≤ℤ◌, refl, sym, ap, ◌∙◌, subst, arith, true≢false}
+use Rattle.fx_fraction.specs.Fraction.{whole}
 use Rattle.fx_core.specs.declared.word_type.Ty.{Ty}
 use Rattle.fx_core.specs.declared.word_type.Ty.TheVariants.{U8, S8, U16, S16, U32, S32}
-use Rattle.fx_core.specs.declared.quotient.Mode.TheVariants.{Near}
 use Rattle.fx_core.specs.Types.{least_of}
-use Rattle.fx_core.specs.Values.{Divides, rounded_fraction, unsaturated}
+use Rattle.fx_core.specs.Values.{Divides, rounded_fraction}
 use Rattle.fx_core.proofs.TypeLaws.{saturated_to-between}
 use Rattle.fx_routines.specs.declared.operation.ArithOp.{ArithOp}
 use Rattle.fx_routines.specs.declared.operation.ArithOp.TheVariants.{Abs, MulDiv, Limit, Min, Max, RateLimiter}
@@ -26,14 +24,14 @@ use Rattle.net_model.specs.declared.wires.Item.TheVariants.{Block as OfBlock}
 use Rattle.net_model.specs.declared.wires.Role.{Role}
 use Rattle.net_model.specs.declared.wires.Role.TheVariants.{Y, X1, X2, W, Value}
 use Rattle.net_model.specs.declared.wires.Part.{Part}
-use Rattle.net_model.specs.Wires.{NetData, wire_at, argument_of, block_roles, has_role, kind_least, kind_greatest, point_of}
+use Rattle.net_model.specs.Wires.{NetData, wire_at, block_roles, has_role, kind_least, kind_greatest, point_of}
 use Rattle.net_model.specs.Families.{signature_of}
 use Rattle.net_model.specs.BlockForms.{form_of}
 use Rattle.net_model.specs.Validity.{IsValid}
 use Rattle.net_model.proofs.ValidityFacts.{arith-valid, number_kind}
 use Rattle.net_model.proofs.FamilyFacts.{ruled_if_built, shift_from_test}
-use Rattle.net_meaning.specs.Cells.{Cell, values_read as read_values, wire_values}
-use Rattle.net_meaning.specs.Blocks.{as_fractions, formula, state_formula, quotient_of, mode_of, points_of, machine, machine_cell, machine_state_of, exact, exact_cell, state_least, state_greatest}
+use Rattle.net_meaning.specs.Cells.{Cell}
+use Rattle.net_meaning.specs.Blocks.{formula, state_formula, quotient_of, mode_of, points_of, machine, machine_cell, machine_state_of, state_least, state_greatest}
 use Rattle.net_meaning.specs.Runs.{equation_of}
 use Rattle.part_rules.specs.declared.bounds.Bounds.{Bounds}
 use Rattle.part_rules.specs.Entries.{if_small}

@@ -1,5 +1,5 @@
 -- What the tests of an entry say, and how small allowed entries of values are.
-use Rattle.std.proofs.Common.{◌≡◌, ℕ, zero, suc, ◌<◌, ◌≤◌, ◌^◌, Bool, true, ◌&&◌, length, List, [], ◌∷◌, get_or, arith, refl, subst, ℤ, pos, negsuc, ◌≤ℤ◌, int_le, int_lt, sym, ap, ◌∙◌, Fits, w32, Fits-le, Fits-lit}
+use Rattle.std.proofs.Common.{◌≡◌, ℕ, zero, suc, ◌<◌, ◌≤◌, ◌^◌, Bool, true, ◌&&◌, length, List, [], ◌∷◌, get_or, arith, refl, subst, pos, negsuc, ◌≤ℤ◌, int_le, int_lt, sym, ap, ◌∙◌, Fits, w32, Fits-le, Fits-lit}
 use Rattle.std.proofs.lemmas.Bool.{and_parts}
 use Rattle.fx_fraction.proofs.WholeNumbers.{int_le-true, int_lt-true, int_le_trans}
 use Rattle.fx_core.specs.declared.word_type.Ty.{Ty}

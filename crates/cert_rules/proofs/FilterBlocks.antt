@@ -1,7 +1,7 @@
 -- The filters: that what the equations of their wires make is within their rules' bounds.
-use Rattle.std.specs.Prelude.{◌≡◌, ℕ, zero, suc, ◌-◌, ◌<◌, ◌≤◌, Bool, true, false, List, [], ◌∷◌, length, ℤ, pos}
-use Rattle.std.proofs.Common.{refl, ap, sym, ◌∙◌, subst, arith}
-use Rattle.fx_fraction.specs.Fraction.{Fraction, whole, minus}
+use Rattle.std.specs.Prelude.{◌≡◌, ℕ, zero, suc, ◌<◌, ◌≤◌, Bool, true, false, List, [], ◌∷◌, ℤ}
+use Rattle.std.proofs.Common.{refl, sym, subst, arith}
+use Rattle.fx_fraction.specs.Fraction.{Fraction, whole}
 use Rattle.fx_core.specs.declared.word_type.Ty.{Ty}
 use Rattle.fx_core.specs.declared.quotient.Mode.TheVariants.{Near}
 use Rattle.fx_core.specs.Values.{rounded_fraction}
@@ -20,7 +20,7 @@ use Rattle.efx_filters.specs.Formulas.{average_formula, value_formula}
 use Rattle.part_rules.specs.declared.bounds.Bounds.{Bounds}
 use Rattle.part_rules.specs.Within.{IsWithin}
 use Rattle.part_rules.specs.PartRules.{KeepsRule, PartMeaning, bounds_at, bounds_read}
-use Rattle.efx_rules.specs.FilterRules.{average_bounds, difference_rounded, gain_rounded, lag_rounded, value_bounds, value_rounded}
+use Rattle.efx_rules.specs.FilterRules.{difference_rounded, gain_rounded, lag_rounded, value_bounds, value_rounded}
 use Rattle.efx_rules.specs.KeptRules.{FitAll, average_rule, means}
 use Rattle.efx_rules.proofs.AverageLaws.{averages_are_sound}
 use Rattle.efx_rules.proofs.KeptRules.{averages_are_monotone, differences_keep_rules, gains_keep_rules, lags_keep_rules, values_keep_rules}

@@ -1,6 +1,6 @@
 -- What the functions of the rules owe, family by family: that the bounds that they are given are small enough, and that the
 -- bounds that they compute are the definition's.
-use Rattle.std.specs.Prelude.{◌≡◌, ℕ, zero, suc, ◌+◌, ◌<◌, ◌≤◌, Bool, true, false, ◌||◌, List, [], ◌∷◌, ◌++◌, map, length, take, get_or, ℤ, pos, Option, Some, None}
+use Rattle.std.specs.Prelude.{◌≡◌, ℕ, zero, suc, ◌+◌, ◌<◌, ◌≤◌, Bool, true, false, ◌||◌, List, [], ◌∷◌, ◌++◌, map, length, take, get_or, ℤ, Option, Some, None}
 use Rattle.std.specs.List.{list_any}
 use Rattle.std.proofs.Common.{refl, ap, sym, ◌∙◌, cond, subst, arith, inl, inr, ◌⊎◌}
 use Rattle.fx_core.specs.declared.word_type.Ty.{Ty}

@@ -1,14 +1,11 @@
 -- What a rule reads of cells, and what a part makes of them.
-use Rattle.std.specs.Prelude.{◌≡◌, ℕ, zero, suc, ◌<◌, Bool, true, false, List, [], ◌∷◌, length, ℤ, pos, IsTrue, Option, Some, None}
-use Rattle.std.proofs.Common.{refl, ap, sym, ◌∙◌, cond, arith}
-use Rattle.fx_fraction.specs.Fraction.{Fraction, whole}
+use Rattle.std.specs.Prelude.{◌≡◌, ℕ, zero, suc, ◌<◌, Bool, true, false, List, length, ℤ, Option, Some, None}
+use Rattle.std.proofs.Common.{refl, cond, arith}
+use Rattle.fx_fraction.specs.Fraction.{Fraction}
 use Rattle.fx_core.specs.declared.quotient.Mode.{Mode}
 use Rattle.fx_core.specs.Values.{Divides, rounded_fraction, unsaturated}
-use Rattle.net_model.specs.declared.wires.Block.{Block}
 use Rattle.net_model.specs.declared.wires.Item.{Item}
-use Rattle.net_model.specs.declared.wires.Item.TheVariants.{Block as OfBlock}
 use Rattle.net_model.specs.declared.wires.Role.{Role}
-use Rattle.net_model.specs.declared.wires.Role.TheVariants.{Y, X1, X2, W, Value}
 use Rattle.net_model.specs.declared.wires.Part.{Part}
 use Rattle.net_model.specs.Wires.{NetData, wire_at}
 use Rattle.net_meaning.specs.Cells.{Cell, wire_values}
@@ -18,7 +15,7 @@ use Rattle.net_meaning.specs.Promises.{ItemDivides}
 use Rattle.part_rules.specs.declared.bounds.Bounds.{Bounds}
 use Rattle.part_rules.specs.Within.{IsWithin}
 use Rattle.part_rules.specs.PartRules.{PartRule, Reading, bounds_read, given_by}
-use Rattle.cert_rules.specs.Rules.{kept_wire, part_on}
+use Rattle.cert_rules.specs.Rules.{part_on}
 use Rattle.cert_rules.specs.Arguments.{rows_ago}
 use Rattle.cert_rules.specs.GivenBounds.{reading_at}
 use Rattle.cert_rules.specs.Soundness.{back, count_of, new_by, raw_by, value_of}

@@ -1,8 +1,7 @@
 -- What the rule of a part reads of a valid network: parts that stand earlier in the same row, and of the row before, unless it is a
 -- delay that has such a row, only parts that start from 0.
 use Rattle.std.proofs.Common.{◌≡◌, ℕ, zero, suc, ◌+◌, ◌*◌, ◌<◌, Bool, true, false, List, [], ◌∷◌, map, length, get_or, take, ℤ, pos, refl, sym, ap, ◌∙◌, subst, arith, true≢false, inl, inr, ◌⊎◌}
-use Rattle.std.specs.Prelude.{IsTrue, Some}
-use Rattle.fx_core.specs.declared.word_type.Ty.{Ty}
+use Rattle.std.specs.Prelude.{Some}
 use Rattle.net_model.specs.declared.wires.Block.{Block}
 use Rattle.net_model.specs.declared.wires.Block.TheVariants.{Gain, Average, Pt1, Dt1}
 use Rattle.net_model.specs.declared.wires.Item.{Item}
@@ -17,7 +16,7 @@ use Rattle.net_model.specs.BlockForms.{form_of, signature_in}
 use Rattle.net_model.specs.Validity.{IsValid}
 use Rattle.std.proofs.lemmas.List.{length-map}
 use Rattle.net_model.proofs.ValidityFacts.{argument_of-valid, delay-valid}
-use Rattle.net_model.proofs.PartPlaces.{has_role-value, part_of}
+use Rattle.net_model.proofs.PartPlaces.{has_role-value}
 use Rattle.part_rules.specs.PartRules.{Reading, read_before, read_now}
 use Rattle.cert_rules.specs.Rules.{argument_part, block_rule, item_rule, kept_reading, kept_rule_of, kept_wire, part_on, part_rule, state_rule_of, value_rule_of}
 use Rattle.cert_rules.specs.Certificates.{IsPart}

@@ -1,10 +1,9 @@
 -- What a rule reads, reading by reading.
-use Rattle.std.proofs.Common.{◌≡◌, ℕ, zero, suc, ◌+◌, ◌<◌, ◌≤◌, ◌==◌, Bool, true, false, ◌&&◌, ◌||◌, List, [], ◌∷◌, map, length, get_or, refl, sym, ap, ap₂, ◌∙◌, arith, eqb-true, eq-eqb, cond}
-use Rattle.std.specs.Prelude.{IsTrue, if◌then◌else◌}
+use Rattle.std.proofs.Common.{◌≡◌, ℕ, zero, suc, ◌<◌, ◌≤◌, ◌==◌, Bool, true, false, ◌&&◌, ◌||◌, List, [], ◌∷◌, length, refl, ap₂, arith, eqb-true, eq-eqb}
 use Rattle.std.proofs.lemmas.Bool.{and_parts, and_from, false≢true}
 use Rattle.net_model.specs.declared.wires.Part.{Part}
 use Rattle.net_model.specs.Wires.{NetData, is_part, parts_of, place_in, same_role}
-use Rattle.net_model.proofs.PartPlaces.{part_of, same_role-true, same_role-itself, has_place, part_there, HasPlace}
+use Rattle.net_model.proofs.PartPlaces.{part_of, same_role-true, same_role-itself, has_place, part_there}
 use Rattle.part_rules.specs.declared.bounds.Bounds.{Bounds}
 use Rattle.part_rules.specs.Within.{no_bounds}
 use Rattle.part_rules.specs.PartRules.{Reading, bounds_at, bounds_read, AgreeOn}

@@ -1,12 +1,11 @@
 -- What the functions of the rules owe: that what is read has entries, that these are small, and that the computed bounds are
 -- the definition's.
-use Rattle.std.proofs.Common.{◌≡◌, ℕ, zero, suc, ◌<◌, ◌≤◌, Bool, true, false, ◌&&◌, cond, List, [], ◌∷◌, map, length, ℤ, pos, ◌≤ℤ◌, ◌<ℤ◌, inl, inr, ◌⊎◌, slice_get, int_le, int_lt, refl, sym, ap, ap₂, ◌∙◌, subst, arith, true≢false, FitsSigned, to_z, of_z, w64, ltb-true, ltb-false}
+use Rattle.std.proofs.Common.{◌≡◌, ℕ, zero, suc, ◌<◌, ◌≤◌, Bool, true, false, ◌&&◌, cond, List, [], ◌∷◌, length, ℤ, pos, ◌≤ℤ◌, ◌<ℤ◌, inl, inr, ◌⊎◌, slice_get, int_le, int_lt, refl, sym, ap, ◌∙◌, subst, arith, FitsSigned, to_z, of_z, w64}
 use Rattle.std.specs.Prelude.{Option, Some, None, IfSome, IsTrue, option_map}
 use Rattle.std.proofs.lemmas.Bool.{and_from}
 use Rattle.std.proofs.lemmas.Int.{ints, to_z-of_z}
 use Rattle.fx_fraction.proofs.WholeNumbers.{int_le-false, int_lt-false}
 use Rattle.net_model.specs.declared.wires.PartNo.{PartNo}
-use Rattle.net_model.specs.declared.wires.Kind.{Kind}
 use Rattle.net_model.specs.declared.wires.Block.{Block}
 use Rattle.net_model.specs.declared.wires.Item.{Item}
 use Rattle.net_model.specs.declared.wires.Item.TheVariants.{Input, Const, Delay, Block as OfBlock}
@@ -15,18 +14,14 @@ use Rattle.net_model.specs.declared.wires.Role.TheVariants.{Y, X1, X2, W, Value}
 use Rattle.net_model.specs.declared.wires.Part.{Part}
 use Rattle.net_model.specs.Wires.{NetData, wire_at, argument_of, block_roles, has_role, no_part, part_number, parts_of, place_in, same_role}
 use Rattle.net_model.specs.declared.wires.WireNo.{WireNo}
-use Rattle.net_model.specs.declared.block_forms.Form.{Form}
-use Rattle.net_model.specs.BlockForms.{form_of}
 use Rattle.net_model.specs.Validity.{IsValid}
 use Rattle.net_model.proofs.ValidityFacts.{argument_of-valid}
-use Rattle.net_model.proofs.PartPlaces.{has_place, has_role-value, part_of}
+use Rattle.net_model.proofs.PartPlaces.{has_place}
 use Rattle.part_rules.specs.declared.bounds.Bounds.{Bounds}
 use Rattle.part_rules.specs.Entries.{IsSmall, is_small, if_small}
-use Rattle.efx_rules.specs.StateEntries.{IsState, is_state, if_state}
-use Rattle.part_rules.specs.Within.{no_bounds}
-use Rattle.part_rules.specs.PartRules.{PartRule, Reading, IsProper, read_now, bounds_at, bounds_read, given_by}
+use Rattle.efx_rules.specs.StateEntries.{IsState, is_state}
+use Rattle.part_rules.specs.PartRules.{Reading, IsProper, read_now, bounds_at, bounds_read, given_by}
 use Rattle.part_rules.proofs.RuleLaws.{gives_proper}
-use Rattle.std.proofs.lemmas.List.{length-map}
 use Rattle.cert_rules.specs.declared.lookups.Given.{Given}
 use Rattle.cert_rules.specs.Rules.{allowed_of, block_rule, cap_of_role, greatest_of_part, is_allowed, item_rule, kept_reading, kept_rule_of, least_of_part, part_rule, rule_of}
 use Rattle.cert_rules.specs.Certificates.{IsPart, entry_of}

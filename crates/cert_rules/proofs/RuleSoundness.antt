@@ -1,38 +1,35 @@
 -- The rule of each part is sound, from entries of which those that it reads are allowed, and depends on what it reads alone.
-use Rattle.std.proofs.Common.{◌≡◌, ℕ, ◌<◌, Bool, true, false, cond, List, [], ◌∷◌, length, get_or, ℤ, pos, ◌≤ℤ◌, refl, sym, ap, ◌∙◌, subst, arith}
+use Rattle.std.proofs.Common.{◌≡◌, ℕ, ◌<◌, Bool, true, false, cond, List, [], length, get_or, ℤ, pos, ◌≤ℤ◌, refl, sym, ap, subst, arith}
 use Rattle.std.specs.Prelude.{Option, Some, None, IsTrue}
-use Rattle.std.proofs.lemmas.Bool.{false≢true}
 use Rattle.fx_fraction.specs.Fraction.{Fraction, whole}
 use Rattle.fx_fraction.proofs.WholeNumbers.{int_le_refl}
-use Rattle.net_model.specs.declared.wires.Block.{Block}
 use Rattle.net_model.specs.declared.wires.WireNo.{WireNo}
-use Rattle.net_model.specs.declared.wires.Kind.{Kind}
 use Rattle.net_model.specs.declared.wires.Item.{Item}
 use Rattle.net_model.specs.declared.wires.Item.TheVariants.{Input, Const, Delay, Block as OfBlock}
 use Rattle.net_model.specs.declared.wires.Role.{Role}
 use Rattle.net_model.specs.declared.wires.Role.TheVariants.{Y, X1, X2, W, Value}
 use Rattle.net_model.specs.declared.wires.Part.{Part}
-use Rattle.net_model.specs.Wires.{NetData, wire_at, argument_of, has_role, input_place, kind_least, kind_greatest, parts_of, roles_of}
+use Rattle.net_model.specs.Wires.{NetData, wire_at, has_role, input_place, roles_of}
 use Rattle.net_model.specs.Validity.{IsValid}
-use Rattle.net_meaning.specs.Cells.{Cell, wire_values}
-use Rattle.net_meaning.specs.Blocks.{machine, exact, as_fractions}
-use Rattle.net_meaning.specs.Runs.{equation_of, equation}
-use Rattle.net_meaning.specs.Promises.{KeepsRange, ItemDivides}
+use Rattle.net_meaning.specs.Cells.{Cell}
+use Rattle.net_meaning.specs.Blocks.{machine, exact}
+use Rattle.net_meaning.specs.Runs.{equation_of}
+use Rattle.net_meaning.specs.Promises.{KeepsRange}
 use Rattle.part_rules.specs.declared.bounds.Bounds.{Bounds}
 use Rattle.part_rules.specs.Within.{IsWithin}
-use Rattle.part_rules.specs.PartRules.{Reading, PartRule, bounds_at, bounds_read, given_by, read_now}
+use Rattle.part_rules.specs.PartRules.{Reading, bounds_read, given_by}
 use Rattle.part_rules.proofs.RuleLaws.{depends_on_reads}
 use Rattle.part_rules.proofs.Within.{itself_within}
-use Rattle.cert_rules.specs.Rules.{allowed_of, block_rule, is_allowed, item_rule, part_rule, rule_of}
-use Rattle.cert_rules.specs.Certificates.{IsPart, entry_of}
-use Rattle.cert_rules.specs.Acceptance.{is_allowed_entry, part_at}
-use Rattle.cert_rules.specs.Arguments.{AgreeFor, RulesReadTheirArguments, is_read, is_read_ever, reads_ago, reads_at, reads_of, rows_ago, rule_by}
-use Rattle.cert_rules.specs.GivenBounds.{AreAllowedReads, reading_at}
-use Rattle.cert_rules.specs.Soundness.{HasItsState, IsGiven, IsPartHeld, IsUnderWay, KeepsBounds, RulesAreSound, back, count_of, value_of}
+use Rattle.cert_rules.specs.Rules.{allowed_of, is_allowed, item_rule, part_rule, rule_of}
+use Rattle.cert_rules.specs.Certificates.{entry_of}
+use Rattle.cert_rules.specs.Acceptance.{part_at}
+use Rattle.cert_rules.specs.Arguments.{RulesReadTheirArguments, is_read, is_read_ever, reads_ago, reads_at, reads_of, rows_ago}
+use Rattle.cert_rules.specs.GivenBounds.{reading_at}
+use Rattle.cert_rules.specs.Soundness.{IsPartHeld, IsUnderWay, RulesAreSound, back}
 use Rattle.cert_rules.proofs.BlockParts.{block_keeps}
 use Rattle.cert_rules.proofs.BlockRules.{FitReads}
 use Rattle.cert_rules.proofs.EntryFacts.{allowed_entry}
-use Rattle.cert_rules.proofs.PartValues.{IsRuled, PartKeeps, ReadsWithin, is_ruled}
+use Rattle.cert_rules.proofs.PartValues.{PartKeeps, ReadsWithin, is_ruled}
 use Rattle.cert_rules.proofs.Readings.{agree_on, given_at, has_number, numbered, read_ever, read_there}
 use Rattle.cert_rules.proofs.ReadParts.{is_orderly}
 use Rattle.cert_rules.proofs.RuleFacts.{allowed_reads}

@@ -1,7 +1,7 @@
 -- An accepted certificate holds, by induction: over older rows, and within a row over parts in their order. What a part reads is
 -- an earlier part of its row, or a part of the row before; the law of rules does the rest, and nothing here names a block.
-use Rattle.std.specs.Prelude.{◌≡◌, ℕ, zero, suc, ◌+◌, ◌<◌, ◌≤◌, Bool, true, false, List, [], ◌∷◌, length, get_or, drop, ℤ, pos, ◌≤ℤ◌, IsTrue, Option, Some, None}
-use Rattle.std.proofs.Common.{refl, sym, ap, ◌∙◌, subst, arith, inl, inr, ◌⊎◌, leb-true, leb-false}
+use Rattle.std.specs.Prelude.{◌≡◌, ℕ, zero, suc, ◌+◌, ◌<◌, ◌≤◌, Bool, true, false, List, [], length, get_or, drop, ℤ, pos, ◌≤ℤ◌, IsTrue, Some}
+use Rattle.std.proofs.Common.{refl, sym, ap, ◌∙◌, subst, arith, inl, inr, ◌⊎◌, leb-false}
 use Rattle.std.proofs.lemmas.Bool.{cases_lt, false≢true}
 use Rattle.std.proofs.lemmas.List.{get_or-drop, get_or_past, length-drop}
 use Rattle.fx_fraction.specs.Fraction.{Fraction, whole}
@@ -12,11 +12,11 @@ use Rattle.net_model.specs.declared.wires.Item.TheVariants.{Input, Const, Delay,
 use Rattle.net_model.specs.declared.wires.Role.{Role}
 use Rattle.net_model.specs.declared.wires.Role.TheVariants.{Y, X1, X2, W, Value}
 use Rattle.net_model.specs.declared.wires.Part.{Part}
-use Rattle.net_model.specs.Wires.{NetData, wire_at, has_role, input_place, kind_least, kind_greatest, parts_of, roles_of}
+use Rattle.net_model.specs.Wires.{NetData, wire_at, has_role, input_place, parts_of, roles_of}
 use Rattle.net_model.specs.Validity.{IsValid}
 use Rattle.net_model.proofs.PartPlaces.{has_role-value}
 use Rattle.net_meaning.specs.Cells.{Cell, Meaning, cell_at, cells_from, plain, wire_values}
-use Rattle.net_meaning.specs.Blocks.{as_fractions, machine, exact, state_least, state_greatest}
+use Rattle.net_meaning.specs.Blocks.{as_fractions, machine, exact}
 use Rattle.net_meaning.specs.Runs.{AreRuns, HasAllInputs, IsRun, Tables, equation, equation_of, is_first, table}
 use Rattle.net_meaning.specs.Promises.{FitsAt, ItemDivides, Keeps, KeepsRange}
 use Rattle.net_meaning.proofs.Equations.{by_smaller, same_readings}
@@ -25,12 +25,12 @@ use Rattle.net_meaning.proofs.TableRun.{table_is_run}
 use Rattle.part_rules.specs.declared.bounds.Bounds.{Bounds}
 use Rattle.part_rules.specs.Within.{IsWithin}
 use Rattle.part_rules.specs.PartRules.{Reading}
-use Rattle.cert_rules.specs.Rules.{count_held, greatest_of_part, held_wire, holder, least_of_part, part_on}
+use Rattle.cert_rules.specs.Rules.{count_held, greatest_of_part, holder, least_of_part, part_on}
 use Rattle.cert_rules.specs.Certificates.{IsPart, entry_of, held_by, is_promised}
 use Rattle.cert_rules.specs.Acceptance.{Accepts, part_at, start_of}
 use Rattle.cert_rules.specs.Arguments.{reads_ago, reads_of, rows_ago}
 use Rattle.cert_rules.specs.GivenBounds.{reading_at, value_part}
-use Rattle.cert_rules.specs.Soundness.{IsGiven, IsPartHeld, IsUnderWay, KeepsInput, back, count_of, new_by, raw_by, value_held, value_of}
+use Rattle.cert_rules.specs.Soundness.{IsGiven, IsPartHeld, IsUnderWay, KeepsInput, back, new_by, raw_by, value_held, value_of}
 use Rattle.cert_rules.specs.Theorem.{CertificatesHold}
 use Rattle.cert_rules.proofs.AcceptedEntries.{EntryHolds, entry_holds, within_wider}
 use Rattle.cert_rules.proofs.BlockRules.{IsKept, IsStateNumber, block_kept, block_state, zero_is_state}

@@ -1,4 +1,4 @@
-use Rattle.std.proofs.Common.{ap, sym, ◌∙◌, ◌++◌, ◌∷◌, [], map, take, length, arith}
+use Rattle.std.proofs.Common.{ap, ◌∙◌, ◌++◌, ◌∷◌, [], map, take, length, arith}
 use Rattle.cert_rules.specs.GivenBounds.{value_part}
 use Rattle.cert_rules.proofs.GivenFacts.{all_collected, collected, few_collected}
 use Rattle.cert_rules.proofs.arguments.arguments_read.Goals as goal

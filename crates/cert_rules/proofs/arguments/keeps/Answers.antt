@@ -1,5 +1,5 @@
 use Rattle.std.proofs.Common.{ap, ◌∙◌}
-use Rattle.net_model.specs.Wires.{block_roles, has_role}
+use Rattle.net_model.specs.Wires.{has_role}
 use Rattle.cert_rules.proofs.GivenFacts.{any_has}
 use Rattle.cert_rules.proofs.arguments.keeps.Goals as goal
 

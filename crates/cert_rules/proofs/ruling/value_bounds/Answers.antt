@@ -1,4 +1,4 @@
-use Rattle.std.proofs.Common.{ap, sym, inl, inr, rules, w32}
+use Rattle.std.proofs.Common.{ap, sym, rules, w32}
 use Rattle.std.proofs.lemmas.Int.{to_z-of_z}
 use Rattle.net_model.specs.Wires.{argument_of}
 use Rattle.cert_rules.proofs.BlockRules.{arith_returns, arith_there, is_plain, scaled_points, scaled_returns}
