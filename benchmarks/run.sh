@@ -216,3 +216,26 @@ network thirds.net s32 'wire p s32 = Mfx_MulDiv_s32s32s32_s32 x x y' 'out p'
 network sums.net s32 'wire p s32 = Mfx_Add_s32s32_s32 x y' 'out p'
 row 'product over a third of s32' thirds
 row 'sum of s32' sums
+
+# ---- filters and delays
+
+# What one wire more costs a row of the shipped sum, whose output alone is printed: a constant, which every wire costs, a delay, and
+# each filter.
+if [ -n "$counted" ]; then
+  words_of_more() { words=("$program" run more.net "$1"); }
+  cp "$network" more.net
+  plain=$(instructions_a_row rows.csv more)
+  echo "instructions more a row, beside $plain for the sum alone:"
+  more() {
+    { grep -v '^out' "$network"; printf '%s\n' "${@:2}"; echo 'out s'; } >more.net
+    printf '%-32s %13s\n' "$1" $(($(instructions_a_row rows.csv more) - plain))
+  }
+  more 'a constant' 'const k s16 1'
+  more 'a delay' 'delay d s16 0 = s'
+  more 'two delays' 'delay d s16 0 = s' 'delay e s16 0 = d'
+  more 'a proportional block' 'wire f s16 = Efx_P_s16_s16 s 32768'
+  more 'a lag' 'wire f s16 = Efx_PT1_s16_s16 s 49152 65536'
+  more 'a differentiating lag' 'wire f s16 = Efx_DT1Typ2_s16_s16 s 49152 65536'
+  more 'an average over 16 rows' 'wire f s16 = Efx_MovAvg_s16_s16 s 16'
+  more 'an average over 1024 rows' 'wire f s16 = Efx_MovAvg_s16_s16 s 1024'
+fi
