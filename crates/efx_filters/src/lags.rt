@@ -4,9 +4,9 @@ ghost use Rattle.std.specs.Prelude.{◌≡◌, ◌+ℤ◌, ◌-ℤ◌, ◌*ℤ�
 ghost use Rattle.fx_fraction.specs.Fraction.{whole};
 ghost use Rattle.fx_core.specs.Types.{Holds};
 ghost use Rattle.efx_filters.specs.Formulas.{drive_weight};
-ghost use Rattle.efx_filters.specs.States.{IsState, dt1_after, dt1_start, dt1_value, next_state, pt1_after, pt1_start, pt1_value, state_value};
+ghost use Rattle.efx_filters.specs.States.{IsState, dt1_after, dt1_start, dt1_value, next_state, pt1_after, pt1_start, pt1_value};
 
-use crate::rounding::{nearest, nearest_state, unscaled, unscaled_wide};
+use crate::rounding::{nearest_state, state_value, unscaled_wide};
 use fx_core::Ty;
 use std::marker::Model;
 
@@ -189,12 +189,4 @@ fn product(a: i64, b: i64) -> i128
     ensures size { unsigned_abs result < 2 ^ 95 }
 {
     i128::from(a) * i128::from(b)
-}
-
-// The value that a state gives.
-fn state_value(o: Ty, y: i64) -> i64
-    requires { IsState y }
-    ensures { result ≡ state_value o y }
-{
-    nearest(o, unscaled(y))
 }

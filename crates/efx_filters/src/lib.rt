@@ -11,3 +11,4 @@ mod rounding;
 pub use crate::average::Average;
 pub use crate::gain::Gain;
 pub use crate::lags::{Dt1, Pt1};
+pub use crate::rounding::{nearest_state, state_value, unscaled_wide};

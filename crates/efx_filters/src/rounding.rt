@@ -5,7 +5,7 @@ ghost use Rattle.fx_core.specs.Rounding.{rounded};
 ghost use Rattle.fx_core.specs.Types.{saturated, saturated_to};
 ghost use Rattle.fx_core.specs.declared.quotient.Mode.TheVariants.{Near};
 ghost use Rattle.efx_filters.specs.Formulas.{state_greatest, state_least};
-ghost use Rattle.efx_filters.specs.States.{IsState};
+ghost use Rattle.efx_filters.specs.States.{IsState, state_value};
 
 use fx_core::Ty;
 
@@ -26,7 +26,7 @@ pub(crate) fn unscaled(n: i64) -> i64
 }
 
 /// The same of a number of more bits.
-pub(crate) fn unscaled_wide(n: i128) -> i128
+pub fn unscaled_wide(n: i128) -> i128
     requires { unsigned_abs n < 2 ^ 96 }
     ensures { result ≡ rounded Near n (pos 65536) }
 {
@@ -46,8 +46,8 @@ pub(crate) fn nearest(t: Ty, number: i64) -> i64
     }
 }
 
-/// The state that is nearest to this number.
-pub(crate) fn nearest_state(number: i128) -> i64
+/// The state that is nearest to this number: a raw count of 48 bits, 16 of them fractional.
+pub fn nearest_state(number: i128) -> i64
     ensures value { result ≡ saturated_to state_least state_greatest number }
     ensures state { IsState result }
 {
@@ -58,4 +58,12 @@ pub(crate) fn nearest_state(number: i128) -> i64
     } else {
         number as i64
     }
+}
+
+/// The value of type `o` that a state gives, rounded to the nearest and saturated.
+pub fn state_value(o: Ty, y: i64) -> i64
+    requires { IsState y }
+    ensures { result ≡ state_value o y }
+{
+    nearest(o, unscaled(y))
 }

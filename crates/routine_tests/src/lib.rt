@@ -5,10 +5,18 @@
 #[cfg(test)]
 mod arithmetic;
 #[cfg(test)]
+mod axes;
+#[cfg(test)]
 mod binary_point_forms;
+#[cfg(test)]
+mod bits;
+#[cfg(test)]
+mod control;
 #[cfg(test)]
 mod filters;
 #[cfg(test)]
 mod rounding;
 #[cfg(test)]
 mod routine_names;
+#[cfg(test)]
+mod switches;

@@ -1,0 +1,7 @@
+pub mod Examples
+mod TypesTaken
+mod BitFacts
+mod MaskFacts
+mod PlaceFacts
+mod TurnFacts
+mod SaturatedShift

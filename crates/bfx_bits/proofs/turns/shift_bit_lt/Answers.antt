@@ -1,0 +1,8 @@
+use Rattle.std.proofs.Common.{pos, ◌∙◌}
+use Rattle.bfx_bits.proofs.TurnFacts.{shift_left_is}
+use Rattle.bfx_bits.proofs.turns.shift_bit_lt.Goals as goal
+
+pub returns : goal.returns
+returns g c =
+    c.word.ensures
+    ∙ shift_left_is g.W.FxInt.TY (g.W.FxInt.wide c.args.w) (pos 0) (pos 0) c.args.n c.from.result c.width.result c.pattern_of.result c.shifted_left.result c.ones.result c.pattern_of.ensures c.from.ensures c.shifted_left.ensures c.width.ensures c.ones.ensures

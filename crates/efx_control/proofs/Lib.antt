@@ -1,0 +1,3 @@
+pub mod Examples
+mod Reductions
+mod Sums

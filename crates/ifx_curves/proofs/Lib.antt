@@ -1,0 +1,5 @@
+mod CurvePoints
+mod GreatestSteps
+mod Means
+mod PositionPoints
+mod TableFaults

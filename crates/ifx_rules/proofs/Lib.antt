@@ -1,0 +1,10 @@
+pub mod Lines
+pub mod Slopes
+pub mod Heights
+pub mod LookUpLines
+pub mod LineErrors
+pub mod LineRanges
+pub mod LineRules
+pub mod LookUps
+pub mod KeptRules
+pub mod Examples

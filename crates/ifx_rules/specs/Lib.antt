@@ -1,0 +1,2 @@
+pub mod LookUpRules
+pub mod KeptRules
