@@ -49,9 +49,10 @@ pub is_on_way : (v u : ℤ) (t : Fraction) (d w : ℕ) → w ≤ 65536 * d → I
 unfolding on_way
 is_on_way v u t d w h i =
     let some : 1 ≤ 65536 * d = omega (arith, i.positive) in
+    let once : (u -ℤ v) *ℤ pos 1 ≡ u -ℤ v = omega (arith, ints) in
     let rise = is_renamed (omega arith) (is_times (is_whole (u -ℤ v) 1 (omega arith)) i) in
     let way = is_divided some rise (is_whole (pos 65536) d i.positive) in
-    subst (Is _ (65536 * d)) (ap (λ n. v *ℤ pos (65536 * d) +ℤ n *ℤ pos w) (omega (arith, ints)) ∙ on_way_sum v u d w h) (is_plus (is_whole v (65536 * d) some) way)
+    subst (Is _ (65536 * d)) (ap (λ n. v *ℤ pos (65536 * d) +ℤ n *ℤ pos w) once ∙ on_way_sum v u d w h) (is_plus (is_whole v (65536 * d) some) way)
 
 -- ---- on the curve
 

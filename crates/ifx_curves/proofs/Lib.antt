@@ -1,4 +1,5 @@
 mod CurvePoints
+mod Examples
 mod GreatestSteps
 mod Means
 mod PositionPoints

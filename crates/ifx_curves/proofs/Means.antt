@@ -52,12 +52,12 @@ mean_held t v u m n some h k =
     let one : pos 1 ≤ℤ pos (m + n) = at_most_in _ _ (omega (arith, ints, some)) in
     let low = least_of t in
     let high = greatest_of t in (
-      rounded_above Floor _ (pos (m + n)) low one (sums low low v u m n h.0 k.0),
+      rounded_above Floor _ (pos (m + n)) low one (sums low v u m n h.0 k.0),
       rounded_below Floor _ (pos (m + n)) high one (sums' high v u m n h.1 k.1),
     )
   where
-    sums : (z z' v u : ℤ) (m n : ℕ) → z ≤ℤ v → z ≤ℤ u → (z *ℤ pos (m + n)) ≤ℤ (v *ℤ pos m +ℤ u *ℤ pos n)
-    sums z z' v u m n h k =
+    sums : (z v u : ℤ) (m n : ℕ) → z ≤ℤ v → z ≤ℤ u → (z *ℤ pos (m + n)) ≤ℤ (v *ℤ pos m +ℤ u *ℤ pos n)
+    sums z v u m n h k =
         let a = products_order z v m h in
         let b = products_order z u n k in
         at_most_in _ _ (omega (arith, ints, a, b))
