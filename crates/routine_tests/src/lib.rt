@@ -13,6 +13,8 @@ mod bits;
 #[cfg(test)]
 mod control;
 #[cfg(test)]
+mod curves;
+#[cfg(test)]
 mod filters;
 #[cfg(test)]
 mod rounding;
