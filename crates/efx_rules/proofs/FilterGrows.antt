@@ -5,7 +5,7 @@ use Rattle.std.proofs.lemmas.Int.{ints}
 use Rattle.fx_fraction.specs.Fraction.{whole}
 use Rattle.fx_fraction.proofs.WholeNumbers.{int_le_refl, int_le-add, int_le-pos, int_le-min, int_le-max}
 use Rattle.part_rules.specs.declared.bounds.Bounds.{Bounds}
-use Rattle.part_rules.specs.Ranges.{corner_values}
+use Rattle.part_rules.specs.Ranges.{corner_values, ends_of}
 use Rattle.part_rules.specs.PartRules.{LiesInside}
 use Rattle.part_rules.proofs.Within.{whole_within}
 use Rattle.part_rules.proofs.CornerHulls.{IsInside}
@@ -56,7 +56,7 @@ unfolding gain_bounds
 gain_grows k narrow wide n =
     let x = n 0 (omega arith) in
     let within : (m : ℕ → ℤ) → AreInside 1 wide m → IsInside (gain_bounds k wide).lo (gain_bounds k wide).hi (gain_rounded k m) = λ m i. let w = gain_within k wide m (λ p. whole (m p)) (wholes_within 1 narrow wide n m i) in record { low = w.low; high = w.high } in
-    let h : HullInside (gain_bounds k wide).lo (gain_bounds k wide).hi (corner_values (gain_rounded k) 1 narrow) = hull_inside _ _ _ (omega arith) (corner_values_inside 1 (gain_rounded k) narrow wide _ _ n within) in
+    let h : HullInside (gain_bounds k wide).lo (gain_bounds k wide).hi (corner_values (gain_rounded k) (ends_of 1 narrow)) = hull_inside _ _ _ (omega arith) (corner_values_inside 1 (gain_rounded k) narrow wide _ _ n within) in
     record { low = h.low; high = h.high; error = gain_error_grows k _ _ x.proper.positive x.inside.error }
 
 pub lag_grows : (teq : ℕ) (k : ℤ) (narrow wide : ℕ → Bounds) → AreNarrower 2 narrow wide → LiesInside (lag_bounds teq k narrow) (lag_bounds teq k wide)
@@ -65,7 +65,7 @@ lag_grows teq k narrow wide n =
     let y = n 0 (omega arith) in
     let x = n 1 (omega arith) in
     let within : (m : ℕ → ℤ) → AreInside 2 wide m → IsInside (lag_bounds teq k wide).lo (lag_bounds teq k wide).hi (lag_rounded teq k m) = λ m i. let w = lag_within teq k wide m (λ p. whole (m p)) (wholes_within 2 narrow wide n m i) in record { low = w.low; high = w.high } in
-    let h : HullInside (lag_bounds teq k wide).lo (lag_bounds teq k wide).hi (corner_values (lag_rounded teq k) 2 narrow) = hull_inside _ _ _ (omega arith) (corner_values_inside 2 (lag_rounded teq k) narrow wide _ _ n within) in
+    let h : HullInside (lag_bounds teq k wide).lo (lag_bounds teq k wide).hi (corner_values (lag_rounded teq k) (ends_of 2 narrow)) = hull_inside _ _ _ (omega arith) (corner_values_inside 2 (lag_rounded teq k) narrow wide _ _ n within) in
     record { low = h.low; high = h.high; error = lag_error_grows teq k _ _ _ _ y.proper.positive x.proper.positive y.inside.error x.inside.error }
 
 pub difference_grows : (teq : ℕ) (k : ℤ) (narrow wide : ℕ → Bounds) → AreNarrower 3 narrow wide → LiesInside (difference_bounds teq k narrow) (difference_bounds teq k wide)
@@ -75,7 +75,7 @@ difference_grows teq k narrow wide n =
     let x = n 1 (omega arith) in
     let z = n 2 (omega arith) in
     let within : (m : ℕ → ℤ) → AreInside 3 wide m → IsInside (difference_bounds teq k wide).lo (difference_bounds teq k wide).hi (difference_rounded teq k m) = λ m i. let w = difference_within teq k wide m (λ p. whole (m p)) (wholes_within 3 narrow wide n m i) in record { low = w.low; high = w.high } in
-    let h : HullInside (difference_bounds teq k wide).lo (difference_bounds teq k wide).hi (corner_values (difference_rounded teq k) 3 narrow) = hull_inside _ _ _ (omega arith) (corner_values_inside 3 (difference_rounded teq k) narrow wide _ _ n within) in
+    let h : HullInside (difference_bounds teq k wide).lo (difference_bounds teq k wide).hi (corner_values (difference_rounded teq k) (ends_of 3 narrow)) = hull_inside _ _ _ (omega arith) (corner_values_inside 3 (difference_rounded teq k) narrow wide _ _ n within) in
     let both : pos 0 ≤ℤ ((narrow 1).err +ℤ (narrow 2).err) = int_le-add (pos 0) _ (pos 0) _ x.proper.positive z.proper.positive in
     record { low = h.low; high = h.high; error = lag_error_grows teq k _ _ _ _ y.proper.positive both y.inside.error (int_le-add _ _ _ _ x.inside.error z.inside.error) }
 
@@ -84,7 +84,7 @@ unfolding value_bounds
 value_grows narrow wide n =
     let y = n 0 (omega arith) in
     let within : (m : ℕ → ℤ) → AreInside 1 wide m → IsInside (value_bounds wide).lo (value_bounds wide).hi (value_rounded m) = λ m i. let w = value_within wide m (λ p. whole (m p)) (wholes_within 1 narrow wide n m i) in record { low = w.low; high = w.high } in
-    let h : HullInside (value_bounds wide).lo (value_bounds wide).hi (corner_values value_rounded 1 narrow) = hull_inside _ _ _ (omega arith) (corner_values_inside 1 value_rounded narrow wide _ _ n within) in
+    let h : HullInside (value_bounds wide).lo (value_bounds wide).hi (corner_values value_rounded (ends_of 1 narrow)) = hull_inside _ _ _ (omega arith) (corner_values_inside 1 value_rounded narrow wide _ _ n within) in
     record { low = h.low; high = h.high; error = half_more _ _ (above_grows _ _ (pos 65536) one y.inside.error) }
 
 pub average_grows : (narrow wide : ℕ → Bounds) → AreNarrower 2 narrow wide → LiesInside (average_bounds narrow) (average_bounds wide)

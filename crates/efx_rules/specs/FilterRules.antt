@@ -9,7 +9,7 @@ use Rattle.fx_core.specs.declared.quotient.Mode.TheVariants.{Near}
 use Rattle.fx_core.specs.Rounding.{least_quotient_above}
 use Rattle.fx_core.specs.Values.{rounded_fraction}
 use Rattle.part_rules.specs.declared.bounds.Bounds.{Bounds}
-use Rattle.part_rules.specs.Ranges.{corner_values, least_among, greatest_among}
+use Rattle.part_rules.specs.Ranges.{corner_values, ends_of, hull_of}
 use Rattle.efx_filters.specs.Formulas.{gain_formula, lag_formula, value_formula}
 
 -- half a raw count: what rounding to the nearest moves at most
@@ -18,11 +18,7 @@ half_count = pos 32768
 
 -- the hull of a function's values at all corners of n ranges, with an error
 abbrev pub hull_bounds : ((ℕ → ℤ) → ℤ) → ℕ → (ℕ → Bounds) → ℤ → Bounds
-hull_bounds value n given err = record {
-  lo = least_among (corner_values value n given);
-  hi = greatest_among (corner_values value n given);
-  err = err;
-}
+hull_bounds value n given err = hull_of (corner_values value (ends_of n given)) err
 
 -- ---- a proportional block
 

@@ -4,7 +4,7 @@ ghost use Rattle.std.specs.Prelude.{◌≡◌, ◌<◌, ◌≤◌, ◌^◌, unsi
 ghost use Rattle.std.specs.Int.{int_max, int_min};
 ghost use Rattle.fx_core.specs.Arguments.{three, two};
 ghost use Rattle.part_rules.specs.Entries.{IsSmall};
-ghost use Rattle.part_rules.specs.Ranges.{corner_values, greatest_among, least_among};
+ghost use Rattle.part_rules.specs.Ranges.{corner_values, ends_of, greatest_among, least_among};
 ghost use Rattle.efx_rules.specs.FilterCorners.{states_over_drive, states_over_inputs, states_over_older};
 ghost use Rattle.efx_rules.specs.FilterRules.{difference_rounded, gain_rounded, lag_rounded, value_rounded};
 
@@ -14,8 +14,8 @@ use part_rules::{Bounds, Range, Whole, high_end, low_end};
 /// The range of a proportional block's value.
 pub(crate) fn gain_range(k: i32, x: Bounds) -> Range
     requires { IsSmall x }
-    ensures lo { result.lo ≡ least_among (corner_values (gain_rounded k) 1 (λ p. x)) }
-    ensures hi { result.hi ≡ greatest_among (corner_values (gain_rounded k) 1 (λ p. x)) }
+    ensures lo { result.lo ≡ least_among (corner_values (gain_rounded k) (ends_of 1 (λ p. x))) }
+    ensures hi { result.hi ≡ greatest_among (corner_values (gain_rounded k) (ends_of 1 (λ p. x))) }
 {
     Range::at(gain_at(k, low_end(x))).joined(Range::at(gain_at(k, high_end(x))))
 }
@@ -24,8 +24,8 @@ pub(crate) fn gain_range(k: i32, x: Bounds) -> Range
 pub(crate) fn lag_range(lag: Lag, y: Bounds, x1: Bounds) -> Range
     requires weight { lag.teq ≤ 65536 }
     requires input { IsSmall x1 }
-    ensures lo { result.lo ≡ least_among (corner_values (lag_rounded lag.teq lag.k) 2 (two y x1)) }
-    ensures hi { result.hi ≡ greatest_among (corner_values (lag_rounded lag.teq lag.k) 2 (two y x1)) }
+    ensures lo { result.lo ≡ least_among (corner_values (lag_rounded lag.teq lag.k) (ends_of 2 (two y x1))) }
+    ensures hi { result.hi ≡ greatest_among (corner_values (lag_rounded lag.teq lag.k) (ends_of 2 (two y x1))) }
 {
     let low = over_drive(lag, least_state(y), x1);
     let high = over_drive(lag, greatest_state(y), x1);
@@ -50,8 +50,8 @@ pub(crate) fn difference_range(lag: Lag, y: Bounds, newer: Bounds, older: Bounds
     requires weight { lag.teq ≤ 65536 }
     requires newer { IsSmall newer }
     requires older { IsSmall older }
-    ensures lo { result.lo ≡ least_among (corner_values (difference_rounded lag.teq lag.k) 3 (three y newer older)) }
-    ensures hi { result.hi ≡ greatest_among (corner_values (difference_rounded lag.teq lag.k) 3 (three y newer older)) }
+    ensures lo { result.lo ≡ least_among (corner_values (difference_rounded lag.teq lag.k) (ends_of 3 (three y newer older))) }
+    ensures hi { result.hi ≡ greatest_among (corner_values (difference_rounded lag.teq lag.k) (ends_of 3 (three y newer older))) }
 {
     let low = over_inputs(lag, least_state(y), newer, older);
     let high = over_inputs(lag, greatest_state(y), newer, older);
@@ -88,8 +88,8 @@ fn over_older(lag: Lag, y: Whole, newer: Whole, older: Bounds) -> Range
 
 /// The range of the value of a block with a state.
 pub(crate) fn value_range(y: Bounds) -> Range
-    ensures lo { result.lo ≡ least_among (corner_values value_rounded 1 (λ p. y)) }
-    ensures hi { result.hi ≡ greatest_among (corner_values value_rounded 1 (λ p. y)) }
+    ensures lo { result.lo ≡ least_among (corner_values value_rounded (ends_of 1 (λ p. y))) }
+    ensures hi { result.hi ≡ greatest_among (corner_values value_rounded (ends_of 1 (λ p. y))) }
 {
     let low = Range::at(value_at(least_state(y)));
     let high = Range::at(value_at(greatest_state(y)));

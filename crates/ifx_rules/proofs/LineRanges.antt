@@ -1,23 +1,22 @@
 -- What a broken line gives over a range of whole numbers, rounded downward, lies in the hull of what it gives at the corners.
-use Rattle.std.specs.Prelude.{◌≡◌, ℕ, zero, suc, ◌<◌, ◌≤◌, Bool, true, false, cond, ◌&&◌, List, [], ◌∷◌, map, length, get_or, ℤ, pos, ◌≤ℤ◌, ◌<ℤ◌, ◌*ℤ◌, int_le}
+use Rattle.std.specs.Prelude.{◌≡◌, ℕ, suc, ◌<◌, Bool, true, false, cond, ◌&&◌, List, [], ◌∷◌, map, length, get_or, ℤ, pos, ◌≤ℤ◌, int_le}
 use Rattle.std.proofs.Common.{refl, sym, ap, ◌∙◌, subst, arith, true≢false}
 use Rattle.std.proofs.lemmas.Int.{ints}
-use Rattle.std.proofs.lemmas.List.{length-map}
 use lib.Signed.{clash_ℤ}
-use Rattle.fx_fraction.specs.Fraction.{Fraction, denom, whole, AtMost, Same, Is}
-use Rattle.fx_fraction.proofs.WholeNumbers.{int_le_refl, int_le_trans, int_le-true, int_le-false, int_le_of-eq, int_le_antisymm, int_le_of-lt, int_mul-one, int_le-mul_pos}
+use Rattle.fx_fraction.specs.Fraction.{Fraction, denom, whole, AtMost, Same}
+use Rattle.fx_fraction.proofs.WholeNumbers.{int_le_refl, int_le_trans, int_le-true, int_le-false, int_le_antisymm, int_le_of-lt, int_mul-one, int_le-mul_pos}
 use Rattle.fx_fraction.proofs.Denominators.{is_self, is_whole, AtMost-in, AtMost-out, Same-in}
 use Rattle.fx_fraction.proofs.Order.{AtMost_trans, AtMost_of-Same, Same_refl, Same_trans}
 use Rattle.fx_core.specs.declared.quotient.Mode.TheVariants.{Floor}
 use Rattle.fx_core.specs.Values.{rounded_fraction}
 use Rattle.fx_core.proofs.RoundingLaws.{rounded_above, rounds-rounded}
 use Rattle.part_rules.specs.declared.bounds.Bounds.{Bounds}
-use Rattle.part_rules.specs.Ranges.{least_among, greatest_among}
+use Rattle.part_rules.specs.Ranges.{points_inside, corners_at, corner_values, least_among, greatest_among}
 use Rattle.part_rules.proofs.Hulls.{least_among_below, greatest_among_above}
-use Rattle.part_rules.proofs.CornerHulls.{IsInside}
-use Rattle.part_rules.proofs.RangesGrow.{Each, each_map, HullInside, hull_inside}
+use Rattle.part_rules.proofs.CornerHulls.{IsInside, values_of_one}
+use Rattle.part_rules.proofs.RangesGrow.{Each}
 use Rattle.ifx_search.specs.Positions.{is_at_most}
-use Rattle.ifx_rules.specs.LookUpRules.{points_inside, corners_at, rounded_down, hull_at}
+use Rattle.ifx_rules.specs.LookUpRules.{rounded_down, hull_at}
 use Rattle.ifx_rules.proofs.Lines.{Knot, between, line}
 use Rattle.ifx_rules.proofs.Slopes.{IsGentle, AreGentle, spans, on_between, on_end, line-first, int_le_test}
 use Rattle.ifx_rules.proofs.Heights.{IsConvex, HasWhere, AllHave, line_has}
@@ -75,7 +74,7 @@ inside_step P b p points true e h = ((λ s. h.0), h.1)
 inside_step P b p points false e h = ((λ s. absurd (true≢false (sym s))), h)
 
 each_inside : (P : ℤ → Type 0) (b : Bounds) (points : List ℤ) → Each P (points_inside b points) → Each (WhereInside P b) points
-unfolding points_inside WhereInside
+unfolding WhereInside
 each_inside P b [] h = tt
 each_inside P b (p ∷ points) h =
     let s = inside_step P b p points _ refl h in
@@ -154,18 +153,18 @@ unfolding WhereInside
 knots_have {D} {G} P value points b l named e =
     all_have P (whole b.lo) (whole b.hi) (l.first ∷ l.knots)
     (each_both _ _ (HasWhere P (whole b.lo) (whole b.hi))
-      (λ k at has. record { has = λ m n. named (line (l.first ∷ l.knots) (whole k.place)) (whole k.height) at.height (named (value (whole k.place)) (line (l.first ∷ l.knots) (whole k.place)) (l.same (whole k.place)) (has (test_inside b.lo b.hi k.place _ _ refl refl (whole_order _ _ m) (whole_order _ _ n)))) })
-      (l.first ∷ l.knots) (at_knots D G l.first l.knots l.gentle)
-      (each_unmapped (WhereInside (λ z. P (value (whole z))) b) (λ k. k.place) (l.first ∷ l.knots) (subst (Each (WhereInside (λ z. P (value (whole z))) b)) (sym l.places) e)))
+    (λ k at has. record { has = λ m n. named (line (l.first ∷ l.knots) (whole k.place)) (whole k.height) at.height (named (value (whole k.place)) (line (l.first ∷ l.knots) (whole k.place)) (l.same (whole k.place)) (has (test_inside b.lo b.hi k.place _ _ refl refl (whole_order _ _ m) (whole_order _ _ n)))) })
+    (l.first ∷ l.knots) (at_knots D G l.first l.knots l.gentle)
+    (each_unmapped (WhereInside (λ z. P (value (whole z))) b) (λ k. k.place) (l.first ∷ l.knots) (subst (Each (WhereInside (λ z. P (value (whole z))) b)) (sym l.places) e)))
 
 -- what the function gives over a range, rounded downward, lies in the hull
 pub line_in_hull : {D G : ℕ} (value : Fraction → Fraction) (points : List ℤ) (b : Bounds) (err : ℤ) → IsLine D G value points → (m : ℤ) → b.lo ≤ℤ m → m ≤ℤ b.hi → IsInside (hull_at value points b err).lo (hull_at value points b err).hi (rounded_down value m)
 line_in_hull {D} {G} value points b err l m h k =
-    let vs = map (rounded_down value) (corners_at b points) in
+    let vs = corner_values (λ z. rounded_down value (z 0)) (corners_at b points ∷ []) in
     let lo = least_among vs in
     let hi = greatest_among vs in
     let P : Fraction → Type 0 = FloorInside lo hi in
-    let corners = each_unmapped (IsInside lo hi) (rounded_down value) (corners_at b points) (each_in_hull vs) in
+    let corners = each_unmapped (IsInside lo hi) (rounded_down value) (corners_at b points) (subst (Each (IsInside lo hi)) (values_of_one (rounded_down value) (corners_at b points)) (each_in_hull vs)) in
     let inner = each_inside (λ z. P (value (whole z))) b points corners.1.1 in
     let named : (f g : Fraction) → Same f g → P f → P g = inside_named lo hi in
     let all = knots_have P value points b l named inner in
@@ -174,18 +173,3 @@ line_in_hull {D} {G} value points b err l m h k =
     let high = named (value (whole b.hi)) (line knots (whole b.hi)) (l.same (whole b.hi)) corners.1.0 in
     named (line knots (whole m)) (value (whole m)) (sym (l.same (whole m)))
     (line_has D G P (whole b.lo) (whole b.hi) knots (floor_convex lo hi) l.gentle (whole m) (order_whole _ _ h) (order_whole _ _ k) low high all)
-
--- ---- the corners of a range lie in it
-
-inside_here : (b : Bounds) (p : ℤ) (points : List ℤ) (s t : Bool) → int_le b.lo p ≡ s → int_le p b.hi ≡ t → Each (IsInside b.lo b.hi) (points_inside b points) → Each (IsInside b.lo b.hi) (cond (s && t) (p ∷ points_inside b points) (points_inside b points))
-inside_here b p points true true e f h = (record { low = int_le-true _ _ e; high = int_le-true _ _ f }, h)
-inside_here b p points true false e f h = h
-inside_here b p points false t e f h = h
-
-inside_all : (b : Bounds) (points : List ℤ) → Each (IsInside b.lo b.hi) (points_inside b points)
-unfolding points_inside
-inside_all b [] = tt
-inside_all b (p ∷ points) = inside_here b p points _ _ refl refl (inside_all b points)
-
-pub corners_inside : (b : Bounds) (points : List ℤ) → b.lo ≤ℤ b.hi → Each (IsInside b.lo b.hi) (corners_at b points)
-corners_inside b points h = (record { low = int_le_refl _; high = h }, (record { low = h; high = int_le_refl _ }, inside_all b points))

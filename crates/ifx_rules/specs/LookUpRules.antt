@@ -1,13 +1,14 @@
 -- The rules of the search, of curves and of curves over an axis: the bounds of a value from those of what is read. Ranges are the
 -- hull of the rounded values at all corners, and errors are in units of 1/65536 of a raw count.
-use Rattle.std.specs.Prelude.{ℕ, zero, suc, ◌+◌, ◌*◌, ◌-◌, ◌&&◌, List, [], ◌∷◌, map, length, min, ℤ, pos, ◌+ℤ◌, ◌-ℤ◌, ◌*ℤ◌, int_le, unsigned_abs, if◌then◌else◌}
+use Rattle.std.specs.Prelude.{ℕ, zero, suc, ◌*◌, ◌-◌, List, [], ◌∷◌, map, length, min, ℤ, pos, ◌+ℤ◌, ◌-ℤ◌, ◌*ℤ◌, unsigned_abs}
 use Rattle.std.specs.List.{range_with_len}
 use Rattle.fx_fraction.specs.Fraction.{Fraction, whole}
 use Rattle.fx_core.specs.declared.quotient.Mode.TheVariants.{Floor}
 use Rattle.fx_core.specs.Rounding.{least_quotient_above}
 use Rattle.fx_core.specs.Values.{rounded_fraction}
 use Rattle.part_rules.specs.declared.bounds.Bounds.{Bounds}
-use Rattle.part_rules.specs.Ranges.{least_among, greatest_among}
+use Rattle.part_rules.specs.Ranges.{corner_values, hull_of}
+pub use Rattle.part_rules.specs.Ranges.{points_inside, corners_at}
 use Rattle.part_rules.specs.Units.{one_count}
 use Rattle.ifx_search.specs.Axes.{point_at}
 use Rattle.ifx_search.specs.Positions.{position}
@@ -16,26 +17,13 @@ use Rattle.ifx_curves.specs.Slopes.{step_of, slope_of}
 
 -- ---- ranges
 
--- the points that lie in a range
-unfoldable pub points_inside : Bounds → List ℤ → List ℤ
-points_inside b [] = []
-points_inside b (p ∷ points) = if int_le b.lo p && int_le p b.hi then p ∷ points_inside b points else points_inside b points
-
--- the corners of the range of an argument that bends at these points: its ends, and the points inside it
-abbrev pub corners_at : Bounds → List ℤ → List ℤ
-corners_at b points = b.lo ∷ b.hi ∷ points_inside b points
-
 -- a function of fractions at a whole number, rounded downward
 abbrev pub rounded_down : (Fraction → Fraction) → ℤ → ℤ
 rounded_down value z = rounded_fraction Floor (value (whole z))
 
--- the hull of a function's values at the corners of one range, with an error
+-- the hull of the values of a function that bends at these points, at the corners of one range, with an error
 abbrev pub hull_at : (Fraction → Fraction) → List ℤ → Bounds → ℤ → Bounds
-hull_at value points b err = record {
-  lo = least_among (map (rounded_down value) (corners_at b points));
-  hi = greatest_among (map (rounded_down value) (corners_at b points));
-  err = err;
-}
+hull_at value points b err = hull_of (corner_values (λ m. rounded_down value (m 0)) (corners_at b points ∷ [])) err
 
 -- ---- errors
 

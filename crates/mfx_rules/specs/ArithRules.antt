@@ -11,7 +11,7 @@ use Rattle.fx_routines.specs.declared.operation.ArithOp.TheVariants.{Add, Sub, A
 use Rattle.mfx_arith.specs.Formulas.{arith_formula}
 use Rattle.mfx_arith.specs.Operations.{arith_arity}
 use Rattle.part_rules.specs.declared.bounds.Bounds.{Bounds}
-use Rattle.part_rules.specs.Ranges.{corner_values, least_among, greatest_among, zero_between}
+use Rattle.part_rules.specs.Ranges.{corner_values, ends_of, hull_of, zero_between}
 use Rattle.part_rules.specs.Errors.{magnitude, may_be_zero, product_error, shifted_error, quotient_error}
 
 -- ---- ranges
@@ -22,7 +22,7 @@ arith_rounded op shift m = rounded_fraction Zero (arith_formula op shift (λ p. 
 
 -- an operation's values at all corners of its arguments' ranges
 abbrev pub arith_corner_values : ArithOp → ℕ → (ℕ → Bounds) → List ℤ
-arith_corner_values op shift given = corner_values (arith_rounded op shift) (arith_arity op) given
+arith_corner_values op shift given = corner_values (arith_rounded op shift) (ends_of (arith_arity op) given)
 
 -- the least value of an absolute value, where what stands inside it takes 0 or both signs at the corners
 abbrev pub turning_values : ArithOp → (ℕ → Bounds) → List ℤ
@@ -64,8 +64,4 @@ arith_may_divide_by_zero other given = false
 
 -- the bounds of an operation's value, where no divisor may be 0
 unfoldable pub arith_bounds : ArithOp → ℕ → (ℕ → Bounds) → Bounds
-arith_bounds op shift given = record {
-  lo = least_among (arith_values op shift given);
-  hi = greatest_among (arith_values op shift given);
-  err = arith_error op shift given;
-}
+arith_bounds op shift given = hull_of (arith_values op shift given) (arith_error op shift given)

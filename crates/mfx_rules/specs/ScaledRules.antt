@@ -12,7 +12,7 @@ use Rattle.mfx_scaled.specs.Counts.{raised}
 use Rattle.mfx_scaled.specs.Formulas.{scaled_formula}
 use Rattle.mfx_scaled.specs.Operations.{scaled_arity}
 use Rattle.part_rules.specs.declared.bounds.Bounds.{Bounds}
-use Rattle.part_rules.specs.Ranges.{corner_values, least_among, greatest_among, zero_between}
+use Rattle.part_rules.specs.Ranges.{corner_values, ends_of, hull_of, zero_between}
 use Rattle.part_rules.specs.Errors.{magnitude, may_be_zero, product_error, quotient_error, shifted_error}
 
 -- ---- ranges
@@ -23,7 +23,7 @@ scaled_rounded op points m = rounded_fraction Zero (scaled_formula op points (λ
 
 -- a form's values at all corners of its arguments' ranges
 abbrev pub scaled_corner_values : ScaledOp → Points → (ℕ → Bounds) → List ℤ
-scaled_corner_values op points given = corner_values (scaled_rounded op points) (scaled_arity op) given
+scaled_corner_values op points given = corner_values (scaled_rounded op points) (ends_of (scaled_arity op) given)
 
 -- the inputs' points, with the higher of them for the output: there a difference is a whole number
 abbrev pub level_points : Points → Points
@@ -71,8 +71,4 @@ scaled_may_divide_by_zero other given = false
 
 -- the bounds of a form's value, where no divisor may be 0
 unfoldable pub scaled_bounds : ScaledOp → Points → (ℕ → Bounds) → Bounds
-scaled_bounds op points given = record {
-  lo = least_among (scaled_values op points given);
-  hi = greatest_among (scaled_values op points given);
-  err = scaled_error op points given;
-}
+scaled_bounds op points given = hull_of (scaled_values op points given) (scaled_error op points given)

@@ -1,9 +1,10 @@
 -- Where a value lies between two of a hull it lies in the hull. A function of numbers that lies, in each of them with the
 -- others fixed in their ranges, between its values at the ends lies in every hull that holds its values at the corners.
-use Rattle.std.specs.Prelude.{◌≡◌, ℕ, ◌<◌, ◌⊎◌, List, [], ◌∷◌, length, get_or, ℤ, pos, ◌≤ℤ◌, unsigned_abs}
-use Rattle.std.proofs.Common.{sym, subst, arith, inl, inr}
+use Rattle.std.specs.Prelude.{◌≡◌, ℕ, ◌<◌, ◌⊎◌, List, [], ◌∷◌, length, map, get_or, ℤ, pos, ◌≤ℤ◌, unsigned_abs}
+use Rattle.std.proofs.Common.{refl, ap, sym, subst, arith, inl, inr}
 use Rattle.std.proofs.lemmas.Int.{ints}
 use Rattle.fx_fraction.proofs.WholeNumbers.{int_le_trans, int_le-pos, int_lt_or_le}
+use Rattle.part_rules.specs.Ranges.{corner_values}
 use Rattle.part_rules.proofs.Hulls.{IsInHull, least_among_below, greatest_among_above}
 
 -- v lies between a and b, whichever of the two is the lesser
@@ -72,6 +73,13 @@ ordered_in_hull f order vs l v h low high p q zero =
 -- the absolute value itself
 pub absolute_in_hull : (vs : List ℤ) (l v h : ℤ) → l ≤ℤ v → v ≤ℤ h → IsInHull vs (pos (unsigned_abs l)) → IsInHull vs (pos (unsigned_abs h)) → (l ≤ℤ pos 0 → pos 0 ≤ℤ h → IsInHull vs (pos 0)) → IsInHull vs (pos (unsigned_abs v))
 absolute_in_hull vs l v h low high p q zero = ordered_in_hull (λ z. z) (λ a b k. k) vs l v h low high p q zero
+
+-- ---- the corners of one range
+
+-- a function's values at the corners of one argument are those at its places
+pub values_of_one : (f : ℤ → ℤ) (places : List ℤ) → corner_values (λ m. f (m 0)) (places ∷ []) ≡ map f places
+values_of_one f [] = refl
+values_of_one f (z ∷ places) = ap (λ vs. f z ∷ vs) (values_of_one f places)
 
 -- ---- the corners of two and of three ranges
 

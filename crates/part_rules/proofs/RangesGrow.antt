@@ -1,13 +1,13 @@
 -- The range of a rule grows with those that it reads: each corner of narrower ranges is a value of the wide ones, and so lies in
 -- what a sound rule gives for these.
-use Rattle.std.specs.Prelude.{◌≡◌, ℕ, zero, suc, ◌+◌, ◌<◌, ◌≤◌, Bool, true, false, ◌&&◌, List, [], ◌∷◌, ◌++◌, map, fold, length, get_or, ℤ, pos, ◌≤ℤ◌, int_le, if◌then◌else◌}
+use Rattle.std.specs.Prelude.{◌≡◌, ℕ, zero, suc, ◌+◌, ◌<◌, ◌≤◌, Bool, true, false, cond, ◌&&◌, List, [], ◌∷◌, ◌++◌, map, flat_map, fold, length, get_or, ℤ, pos, ◌≤ℤ◌, int_le, if◌then◌else◌}
 use Rattle.std.specs.Int.{int_min, int_max}
 use Rattle.std.proofs.Common.{refl, arith, subst, length-append}
 use Rattle.std.proofs.lemmas.List.{length-map}
 use Rattle.std.proofs.lemmas.Int.{ints, clamps}
-use Rattle.fx_fraction.proofs.WholeNumbers.{int_le_trans, int_le-true}
+use Rattle.fx_fraction.proofs.WholeNumbers.{int_le_refl, int_le_trans, int_le-true}
 use Rattle.part_rules.specs.declared.bounds.Bounds.{Bounds}
-use Rattle.part_rules.specs.Ranges.{given_bounds, corners_of, corner_values, least_among, greatest_among, zero_between}
+use Rattle.part_rules.specs.Ranges.{points_inside, corners_at, given_bounds, ends_of, corners_of, corner_values, least_among, greatest_among, zero_between}
 use Rattle.part_rules.specs.PartRules.{IsNarrower}
 use Rattle.part_rules.proofs.CornerHulls.{IsInside, in_hull}
 
@@ -56,7 +56,28 @@ hull_inside lo hi (v ∷ vs) some p = record {
   high = (fold_keeps (IsInside lo hi) int_max (greater_inside lo hi) v vs p.0 p.1).high;
 }
 
--- ---- corners
+-- ---- the corners of one argument lie in its range
+
+inside_tested : (b : Bounds) (p : ℤ) (points : List ℤ) (s t : Bool) → int_le b.lo p ≡ s → int_le p b.hi ≡ t → Each (IsInside b.lo b.hi) (points_inside b points) → Each (IsInside b.lo b.hi) (cond (s && t) (p ∷ points_inside b points) (points_inside b points))
+inside_tested b p points true true e f h = (record { low = int_le-true _ _ e; high = int_le-true _ _ f }, h)
+inside_tested b p points true false e f h = h
+inside_tested b p points false t e f h = h
+
+points_lie_inside : (b : Bounds) (points : List ℤ) → Each (IsInside b.lo b.hi) (points_inside b points)
+points_lie_inside b [] = tt
+points_lie_inside b (p ∷ points) = inside_tested b p points _ _ refl refl (points_lie_inside b points)
+
+pub corners_inside : (b : Bounds) (points : List ℤ) → b.lo ≤ℤ b.hi → Each (IsInside b.lo b.hi) (corners_at b points)
+corners_inside b points h = (record { low = int_le_refl _; high = h }, (record { low = h; high = int_le_refl _ }, points_lie_inside b points))
+
+-- ---- the corners of all arguments
+
+-- each argument's corners lie in its range
+abbrev pub LieInRanges : List Bounds → List (List ℤ) → Type 0
+LieInRanges [] [] = Unit {0}
+LieInRanges [] (places ∷ others) = ⊥
+LieInRanges (b ∷ bounds) [] = ⊥
+LieInRanges (b ∷ bounds) (places ∷ others) = Each (IsInside b.lo b.hi) places × LieInRanges bounds others
 
 -- a corner's numbers lie in the ranges, one by one
 abbrev pub IsCorner : List Bounds → List ℤ → Type 0
@@ -64,22 +85,31 @@ IsCorner [] c = Unit {0}
 IsCorner (b ∷ bounds) [] = ⊥
 IsCorner (b ∷ bounds) (z ∷ c) = IsInside b.lo b.hi z × IsCorner bounds c
 
+choices_inside : (b : Bounds) (bounds : List Bounds) (places : List ℤ) (rest : List (List ℤ)) → Each (IsInside b.lo b.hi) places → Each (IsCorner bounds) rest → Each (IsCorner (b ∷ bounds)) (flat_map (λ z. map (λ c. z ∷ c) rest) places)
+choices_inside b bounds [] rest p q = tt
+choices_inside b bounds (z ∷ places) rest p q =
+    each_append (IsCorner (b ∷ bounds)) (map (λ c. z ∷ c) rest) (flat_map (λ z. map (λ c. z ∷ c) rest) places)
+    (each_map (IsCorner bounds) (IsCorner (b ∷ bounds)) (λ c. z ∷ c) (λ c k. (p.0, k)) rest q)
+    (choices_inside b bounds places rest p.1 q)
+
+all_corners_inside : (bounds : List Bounds) (arguments : List (List ℤ)) → LieInRanges bounds arguments → Each (IsCorner bounds) (corners_of arguments)
+all_corners_inside [] [] p = (tt, tt)
+all_corners_inside [] (places ∷ others) p = absurd p
+all_corners_inside (b ∷ bounds) [] p = absurd p
+all_corners_inside (b ∷ bounds) (places ∷ others) p = choices_inside b bounds places (corners_of others) p.0 (all_corners_inside bounds others p.1)
+
 abbrev IsOrdered : Bounds → Type 0
 IsOrdered b = b.lo ≤ℤ b.hi
 
-corners_inside : (bounds : List Bounds) → Each IsOrdered bounds → Each (IsCorner bounds) (corners_of bounds)
-corners_inside [] p = (tt, tt)
-corners_inside (b ∷ bounds) p =
-    let rest = corners_inside bounds p.1 in
-    let low : IsInside b.lo b.hi b.lo = record { low = omega (arith, ints); high = p.0 } in
-    let high : IsInside b.lo b.hi b.hi = record { low = p.0; high = omega (arith, ints) } in
-    each_append (IsCorner (b ∷ bounds)) (map (λ c. b.lo ∷ c) (corners_of bounds)) (map (λ c. b.hi ∷ c) (corners_of bounds))
-    (each_map (IsCorner bounds) (IsCorner (b ∷ bounds)) (λ c. b.lo ∷ c) (λ c k. (low, k)) (corners_of bounds) rest)
-    (each_map (IsCorner bounds) (IsCorner (b ∷ bounds)) (λ c. b.hi ∷ c) (λ c k. (high, k)) (corners_of bounds) rest)
+ends_inside : (bounds : List Bounds) → Each IsOrdered bounds → LieInRanges bounds (map (λ b. corners_at b []) bounds)
+ends_inside [] p = tt
+ends_inside (b ∷ bounds) p = (corners_inside b [] p.0, ends_inside bounds p.1)
 
-corners_some : (bounds : List Bounds) → 1 ≤ length (corners_of bounds)
+corners_some : (bounds : List Bounds) → 1 ≤ length (corners_of (map (λ b. corners_at b []) bounds))
 corners_some [] = omega arith
-corners_some (b ∷ bounds) = omega (arith, corners_some bounds, length-append (map (λ c. b.lo ∷ c) (corners_of bounds)) (map (λ c. b.hi ∷ c) (corners_of bounds)), length-map (corners_of bounds) (λ c. b.lo ∷ c))
+corners_some (b ∷ bounds) =
+    let rest = corners_of (map (λ b. corners_at b []) bounds) in
+    omega (arith, corners_some bounds, length-append (map (λ c. b.lo ∷ c) rest) (map (λ c. b.hi ∷ c) rest ++ []), length-map rest (λ c. b.lo ∷ c))
 
 corner_number : (given : ℕ → Bounds) (p n q : ℕ) (c : List ℤ) → IsCorner (given_bounds given p n) c → q < n → IsInside (given (p + q)).lo (given (p + q)).hi (get_or c q (pos 0))
 corner_number given p zero q c k h = absurd (omega arith)
@@ -104,20 +134,27 @@ AreInside n given m = (p : ℕ) → p < n → IsInside (given p).lo (given p).hi
 inside_wide : (narrow wide : Bounds) (z : ℤ) → IsNarrower narrow wide → IsInside narrow.lo narrow.hi z → IsInside wide.lo wide.hi z
 inside_wide narrow wide z n i = record { low = int_le_trans _ _ _ n.inside.low i.low; high = int_le_trans _ _ _ i.high n.inside.high }
 
--- the values at the corners of narrower ranges lie between what all values in the wide ones lie between
-pub corner_values_inside : (n : ℕ) (value : (ℕ → ℤ) → ℤ) (narrow wide : ℕ → Bounds) (lo hi : ℤ) → AreNarrower n narrow wide → ((m : ℕ → ℤ) → AreInside n wide m → IsInside lo hi (value m)) → Each (IsInside lo hi) (corner_values value n narrow)
-corner_values_inside n value narrow wide lo hi narrower inside =
+ordered_ends : (n : ℕ) (narrow wide : ℕ → Bounds) → AreNarrower n narrow wide → LieInRanges (given_bounds narrow 0 n) (ends_of n narrow)
+ordered_ends n narrow wide narrower = ends_inside (given_bounds narrow 0 n) (ordered_from narrow 0 n (λ q l. subst (λ t. IsOrdered (narrow t)) (omega arith) (narrower q l).proper.ordered))
+
+-- the values at corners in narrower ranges lie between what all values in the wide ones lie between
+pub values_inside : (n : ℕ) (value : (ℕ → ℤ) → ℤ) (arguments : List (List ℤ)) (narrow wide : ℕ → Bounds) (lo hi : ℤ) → LieInRanges (given_bounds narrow 0 n) arguments → AreNarrower n narrow wide → ((m : ℕ → ℤ) → AreInside n wide m → IsInside lo hi (value m)) → Each (IsInside lo hi) (corner_values value arguments)
+values_inside n value arguments narrow wide lo hi lie narrower inside =
     each_map (IsCorner (given_bounds narrow 0 n)) (IsInside lo hi) (λ corner. value (λ p. get_or corner p (pos 0)))
     (λ c k. inside (λ p. get_or c p (pos 0)) (λ q l. inside_wide (narrow q) (wide q) _ (narrower q l) (subst (λ t. IsInside (narrow t).lo (narrow t).hi (get_or c q (pos 0))) (omega arith) (corner_number narrow 0 n q c k l))))
-    (corners_of (given_bounds narrow 0 n))
-    (corners_inside (given_bounds narrow 0 n) (ordered_from narrow 0 n (λ q l. subst (λ t. IsOrdered (narrow t)) (omega arith) (narrower q l).proper.ordered)))
+    (corners_of arguments)
+    (all_corners_inside (given_bounds narrow 0 n) arguments lie)
+
+-- so do those at the ends
+pub corner_values_inside : (n : ℕ) (value : (ℕ → ℤ) → ℤ) (narrow wide : ℕ → Bounds) (lo hi : ℤ) → AreNarrower n narrow wide → ((m : ℕ → ℤ) → AreInside n wide m → IsInside lo hi (value m)) → Each (IsInside lo hi) (corner_values value (ends_of n narrow))
+corner_values_inside n value narrow wide lo hi narrower inside = values_inside n value (ends_of n narrow) narrow wide lo hi (ordered_ends n narrow wide narrower) narrower inside
 
 -- and so does their hull with other values that lie there
-pub hull_grows : (n : ℕ) (value : (ℕ → ℤ) → ℤ) (narrow wide : ℕ → Bounds) (others : List ℤ) (lo hi : ℤ) → AreNarrower n narrow wide → ((m : ℕ → ℤ) → AreInside n wide m → IsInside lo hi (value m)) → Each (IsInside lo hi) others → HullInside lo hi (corner_values value n narrow ++ others)
+pub hull_grows : (n : ℕ) (value : (ℕ → ℤ) → ℤ) (narrow wide : ℕ → Bounds) (others : List ℤ) (lo hi : ℤ) → AreNarrower n narrow wide → ((m : ℕ → ℤ) → AreInside n wide m → IsInside lo hi (value m)) → Each (IsInside lo hi) others → HullInside lo hi (corner_values value (ends_of n narrow) ++ others)
 hull_grows n value narrow wide others lo hi narrower inside rest =
-    let vs = corner_values value n narrow in
+    let vs = corner_values value (ends_of n narrow) in
     hull_inside lo hi (vs ++ others)
-    (omega (arith, corners_some (given_bounds narrow 0 n), length-append vs others, length-map (corners_of (given_bounds narrow 0 n)) (λ corner. value (λ p. get_or corner p (pos 0)))))
+    (omega (arith, corners_some (given_bounds narrow 0 n), length-append vs others, length-map (corners_of (ends_of n narrow)) (λ corner. value (λ p. get_or corner p (pos 0)))))
     (each_append (IsInside lo hi) vs others (corner_values_inside n value narrow wide lo hi narrower inside) rest)
 
 -- the ends of a narrower range lie in the hull of the wide one's
