@@ -1,5 +1,5 @@
 -- The rules on worked values: an axis of 0, 10 and 30 and a table of 0, 100 and 50.
-use Rattle.std.specs.Prelude.{◌≡◌, ℕ, List, [], ◌∷◌, ℤ, pos}
+use Rattle.std.specs.Prelude.{◌≡◌, List, [], ◌∷◌, ℤ, pos}
 use Rattle.std.proofs.Common.{refl}
 use Rattle.part_rules.specs.declared.bounds.Bounds.{Bounds}
 use Rattle.fx_fraction.specs.Fraction.{whole, plus, minus, times, quotient, divided}

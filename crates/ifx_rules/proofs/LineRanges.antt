@@ -1,11 +1,10 @@
 -- What a broken line gives over a range of whole numbers, rounded downward, lies in the hull of what it gives at the corners.
-use Rattle.std.specs.Prelude.{◌≡◌, ℕ, zero, suc, ◌<◌, ◌≤◌, Bool, true, false, cond, ◌&&◌, List, [], ◌∷◌, map, length, get_or, ℤ, pos, ◌≤ℤ◌, ◌<ℤ◌, ◌*ℤ◌, int_le}
+use Rattle.std.specs.Prelude.{◌≡◌, ℕ, suc, ◌<◌, Bool, true, false, cond, ◌&&◌, List, [], ◌∷◌, map, length, get_or, ℤ, pos, ◌≤ℤ◌, int_le}
 use Rattle.std.proofs.Common.{refl, sym, ap, ◌∙◌, subst, arith, true≢false}
 use Rattle.std.proofs.lemmas.Int.{ints}
-use Rattle.std.proofs.lemmas.List.{length-map}
 use lib.Signed.{clash_ℤ}
-use Rattle.fx_fraction.specs.Fraction.{Fraction, denom, whole, AtMost, Same, Is}
-use Rattle.fx_fraction.proofs.WholeNumbers.{int_le_refl, int_le_trans, int_le-true, int_le-false, int_le_of-eq, int_le_antisymm, int_le_of-lt, int_mul-one, int_le-mul_pos}
+use Rattle.fx_fraction.specs.Fraction.{Fraction, denom, whole, AtMost, Same}
+use Rattle.fx_fraction.proofs.WholeNumbers.{int_le_refl, int_le_trans, int_le-true, int_le-false, int_le_antisymm, int_le_of-lt, int_mul-one, int_le-mul_pos}
 use Rattle.fx_fraction.proofs.Denominators.{is_self, is_whole, AtMost-in, AtMost-out, Same-in}
 use Rattle.fx_fraction.proofs.Order.{AtMost_trans, AtMost_of-Same, Same_refl, Same_trans}
 use Rattle.fx_core.specs.declared.quotient.Mode.TheVariants.{Floor}
@@ -15,7 +14,7 @@ use Rattle.part_rules.specs.declared.bounds.Bounds.{Bounds}
 use Rattle.part_rules.specs.Ranges.{least_among, greatest_among}
 use Rattle.part_rules.proofs.Hulls.{least_among_below, greatest_among_above}
 use Rattle.part_rules.proofs.CornerHulls.{IsInside}
-use Rattle.part_rules.proofs.RangesGrow.{Each, each_map, HullInside, hull_inside}
+use Rattle.part_rules.proofs.RangesGrow.{Each}
 use Rattle.ifx_search.specs.Positions.{is_at_most}
 use Rattle.ifx_rules.specs.LookUpRules.{points_inside, corners_at, rounded_down, hull_at}
 use Rattle.ifx_rules.proofs.Lines.{Knot, between, line}
@@ -54,7 +53,7 @@ each_of P (v ∷ vs) h = (h 0 (omega arith), each_of P vs (λ i l. h (suc i) (om
 each_in_hull : (vs : List ℤ) → Each (IsInside (least_among vs) (greatest_among vs)) vs
 each_in_hull vs = each_of (IsInside (least_among vs) (greatest_among vs)) vs (λ i h. record { low = least_among_below vs i h; high = greatest_among_above vs i h })
 
-each_turned : {X : Type 0} (P Q : X → Type 0) → ((x : X) → P x → Q x) → (xs : List X) → Each P xs → Each Q xs
+pub each_turned : {X : Type 0} (P Q : X → Type 0) → ((x : X) → P x → Q x) → (xs : List X) → Each P xs → Each Q xs
 each_turned P Q f [] e = tt
 each_turned P Q f (x ∷ xs) e = (f x e.0, each_turned P Q f xs e.1)
 
@@ -84,9 +83,9 @@ each_inside P b (p ∷ points) h =
 -- ---- at its knots a line has their heights
 
 -- a knot of a line that begins at p is at p or behind it, and has the line's height
-record IsAtKnot (p : Knot) (knots : List Knot) (k : Knot) : Type 0 where
-  behind : p.place ≤ℤ k.place
-  height : Same (line (p ∷ knots) (whole k.place)) (whole k.height)
+pub record IsAtKnot (p : Knot) (knots : List Knot) (k : Knot) : Type 0 where
+  pub behind : p.place ≤ℤ k.place
+  pub height : Same (line (p ∷ knots) (whole k.place)) (whole k.height)
 
 whole_test : (k z : ℤ) → is_at_most (whole k) z ≡ int_le k z
 unfolding whole
@@ -119,7 +118,7 @@ next_knot p q knots k s at = record { behind = int_le_trans _ _ _ (int_le_of-lt 
 first_knot : (p : Knot) (knots : List Knot) → IsAtKnot p knots p
 first_knot p knots = record { behind = int_le_refl p.place; height = same_of _ _ (line-first p knots) }
 
-at_knots : (D G : ℕ) (p : Knot) (knots : List Knot) → AreGentle D G (p ∷ knots) → Each (IsAtKnot p knots) (p ∷ knots)
+pub at_knots : (D G : ℕ) (p : Knot) (knots : List Knot) → AreGentle D G (p ∷ knots) → Each (IsAtKnot p knots) (p ∷ knots)
 at_knots D G p [] s = (first_knot p [], tt)
 at_knots D G p (q ∷ knots) s = (first_knot p (q ∷ knots), each_turned (IsAtKnot q knots) (IsAtKnot p (q ∷ knots)) (λ k at. next_knot p q knots k s.0 at) (q ∷ knots) (at_knots D G q knots s.1))
 
@@ -154,9 +153,9 @@ unfolding WhereInside
 knots_have {D} {G} P value points b l named e =
     all_have P (whole b.lo) (whole b.hi) (l.first ∷ l.knots)
     (each_both _ _ (HasWhere P (whole b.lo) (whole b.hi))
-      (λ k at has. record { has = λ m n. named (line (l.first ∷ l.knots) (whole k.place)) (whole k.height) at.height (named (value (whole k.place)) (line (l.first ∷ l.knots) (whole k.place)) (l.same (whole k.place)) (has (test_inside b.lo b.hi k.place _ _ refl refl (whole_order _ _ m) (whole_order _ _ n)))) })
-      (l.first ∷ l.knots) (at_knots D G l.first l.knots l.gentle)
-      (each_unmapped (WhereInside (λ z. P (value (whole z))) b) (λ k. k.place) (l.first ∷ l.knots) (subst (Each (WhereInside (λ z. P (value (whole z))) b)) (sym l.places) e)))
+    (λ k at has. record { has = λ m n. named (line (l.first ∷ l.knots) (whole k.place)) (whole k.height) at.height (named (value (whole k.place)) (line (l.first ∷ l.knots) (whole k.place)) (l.same (whole k.place)) (has (test_inside b.lo b.hi k.place _ _ refl refl (whole_order _ _ m) (whole_order _ _ n)))) })
+    (l.first ∷ l.knots) (at_knots D G l.first l.knots l.gentle)
+    (each_unmapped (WhereInside (λ z. P (value (whole z))) b) (λ k. k.place) (l.first ∷ l.knots) (subst (Each (WhereInside (λ z. P (value (whole z))) b)) (sym l.places) e)))
 
 -- what the function gives over a range, rounded downward, lies in the hull
 pub line_in_hull : {D G : ℕ} (value : Fraction → Fraction) (points : List ℤ) (b : Bounds) (err : ℤ) → IsLine D G value points → (m : ℤ) → b.lo ≤ℤ m → m ≤ℤ b.hi → IsInside (hull_at value points b err).lo (hull_at value points b err).hi (rounded_down value m)

@@ -1,8 +1,6 @@
 -- A function that is a broken line keeps the rule of its hull and its slope.
-use Rattle.std.specs.Prelude.{◌≡◌, ℕ, ◌≤◌, ◌<◌, ◌*◌, List, [], ◌∷◌, length, map, ℤ, pos, ◌≤ℤ◌, ◌*ℤ◌, ◌+ℤ◌}
+use Rattle.std.specs.Prelude.{ℕ, ◌≤◌, List, ◌∷◌, map, ℤ, pos, ◌≤ℤ◌, ◌*ℤ◌}
 use Rattle.std.proofs.Common.{refl, sym, arith}
-use Rattle.std.proofs.lemmas.Int.{ints}
-use Rattle.std.proofs.lemmas.List.{length-map}
 use Rattle.fx_fraction.specs.Fraction.{Fraction, whole, Same}
 use Rattle.fx_fraction.proofs.WholeNumbers.{int_le-add, int_le_refl, int_le_trans, int_le-pos}
 use Rattle.fx_fraction.proofs.Denominators.{is_same, common_two}
@@ -10,12 +8,12 @@ use Rattle.part_rules.specs.declared.bounds.Bounds.{Bounds}
 use Rattle.part_rules.specs.Within.{IsWithin}
 use Rattle.part_rules.specs.PartRules.{KeepsRule, IsNarrower, LiesInside, bounds_at}
 use Rattle.part_rules.proofs.CornerHulls.{IsInside}
-use Rattle.part_rules.proofs.RangesGrow.{Each, each_map, HullInside, hull_inside}
+use Rattle.part_rules.proofs.RangesGrow.{each_map, hull_inside}
 use Rattle.part_rules.proofs.ErrorsGrow.{above_grows, products_grow}
-use Rattle.ifx_rules.specs.LookUpRules.{points_inside, corners_at, rounded_down, hull_at, slope_error}
+use Rattle.ifx_rules.specs.LookUpRules.{corners_at, rounded_down, hull_at, slope_error}
 use Rattle.ifx_rules.specs.KeptRules.{FitAll, one_read, rounds_down}
 use Rattle.ifx_rules.proofs.Slopes.{Near, near_in, near_out, line_near_any}
-use Rattle.ifx_rules.proofs.LineErrors.{IsNear, slope_error_near}
+use Rattle.ifx_rules.proofs.LineErrors.{slope_error_near}
 use Rattle.ifx_rules.proofs.LineRanges.{IsLine, line_in_hull, corners_inside}
 
 near_named : {D G : ℕ} (x y f h f' h' : Fraction) → Same f' f → Same h' h → Near D G x y f h → Near D G x y f' h'
@@ -46,9 +44,9 @@ line_grows {D} {G} value points some l narrow wide n =
     let lo = (line_bounds D G value points wide).lo in
     let hi = (line_bounds D G value points wide).hi in
     let hull = hull_inside lo hi (map (rounded_down value) (corners_at (narrow 0) points)) (omega arith)
-        (each_map (IsInside (narrow 0).lo (narrow 0).hi) (IsInside lo hi) (rounded_down value)
-          (λ z i. line_in_hull value points (wide 0) (slope_error (pos D) (pos G) (wide 0).err) l z (int_le_trans _ _ _ n.inside.low i.low) (int_le_trans _ _ _ i.high n.inside.high))
-          (corners_at (narrow 0) points) (corners_inside (narrow 0) points n.proper.ordered)) in
+    (each_map (IsInside (narrow 0).lo (narrow 0).hi) (IsInside lo hi) (rounded_down value)
+    (λ z i. line_in_hull value points (wide 0) (slope_error (pos D) (pos G) (wide 0).err) l z (int_le_trans _ _ _ n.inside.low i.low) (int_le_trans _ _ _ i.high n.inside.high))
+    (corners_at (narrow 0) points) (corners_inside (narrow 0) points n.proper.ordered)) in
     record { low = hull.low; high = hull.high; error = error_grows D G _ _ some n.proper.positive n.inside.error }
 
 pub line_keeps_rule : {D G : ℕ} (value : Fraction → Fraction) (points : List ℤ) → 1 ≤ G → IsLine D G value points → KeepsRule (one_read (line_bounds D G value points)) (rounds_down value) FitAll
