@@ -7,6 +7,7 @@ ghost use Rattle.ifx_rules.specs.LookUpRules.{gap_at, gap_of};
 use ifx_search::Axis;
 
 /// The least distance from a point of the axis to the next, a raw count.
+#[tactic(auto, using(crate::proofs::LeastGaps::least_of_more))]
 pub fn least_gap(axis: &Axis) -> i64
     ensures gap { result ≡ pos (gap_of axis.now.points) }
     ensures some { 1 ≤ gap_of axis.now.points }
