@@ -10,4 +10,5 @@ pub mod KeptRules
 pub mod Bends
 pub mod LookUpHulls
 pub mod LeastGaps
+pub mod SlopeWords
 pub mod Examples

@@ -78,9 +78,16 @@ fn joined_inside(range: Range, x: Bounds, bend: Bend) -> Range
     ensures lo { result.lo ≡ (if int_le x.lo bend.place && int_le bend.place x.hi then int_min range.lo bend.value else range.lo) }
     ensures hi { result.hi ≡ (if int_le x.lo bend.place && int_le bend.place x.hi then int_max range.hi bend.value else range.hi) }
 {
-    if x.lo <= bend.place && bend.place <= x.hi {
+    if is_inside(x, bend) {
         range.joined(Range::at(Whole::of_count(bend.value)))
     } else {
         range
     }
+}
+
+// Whether a bend lies inside the range of what is read.
+fn is_inside(x: Bounds, bend: Bend) -> bool
+    ensures { result ≡ (int_le x.lo bend.place && int_le bend.place x.hi) }
+{
+    x.lo <= bend.place && bend.place <= x.hi
 }
