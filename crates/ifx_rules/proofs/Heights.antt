@@ -1,8 +1,7 @@
 -- Over a range of places a broken line has between its heights at the range's ends and at the knots inside it.
-use Rattle.std.specs.Prelude.{◌≡◌, ℕ, Bool, true, false, cond, List, [], ◌∷◌, ℤ, pos, negsuc, ◌+ℤ◌, ◌-ℤ◌, ◌*ℤ◌, ◌≤ℤ◌, ◌<ℤ◌, unsigned_abs}
-use Rattle.std.proofs.Common.{refl, sym, ap, ◌∙◌, subst, arith, inl, inr, ◌⊎◌}
-use Rattle.std.proofs.lemmas.Int.{ints}
-use Rattle.fx_fraction.specs.Fraction.{Fraction, denom, whole, AtMost, Is}
+use Rattle.std.specs.Prelude.{◌≡◌, ℕ, Bool, true, false, cond, List, [], ◌∷◌, ℤ, pos, ◌+ℤ◌, ◌-ℤ◌, ◌*ℤ◌, ◌≤ℤ◌, ◌<ℤ◌}
+use Rattle.std.proofs.Common.{refl, sym, subst, inl, inr, ◌⊎◌}
+use Rattle.fx_fraction.specs.Fraction.{Fraction, whole, AtMost, Is}
 use Rattle.fx_fraction.proofs.WholeNumbers.{int_le-add, int_le_refl, int_le-sub, int_le-mul, int_le-mul_reversed, int_lt_or_le, int_le_of-lt, int_mul_comm, int_mul-one}
 use Rattle.fx_fraction.proofs.Denominators.{is_whole, AtMost-in, AtMost-out, common_three}
 use Rattle.fx_fraction.proofs.Order.{AtMost_trans}

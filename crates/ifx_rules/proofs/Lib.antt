@@ -7,4 +7,8 @@ pub mod LineRanges
 pub mod LineRules
 pub mod LookUps
 pub mod KeptRules
+pub mod Bends
+pub mod LookUpHulls
+pub mod LeastGaps
+pub mod SlopeWords
 pub mod Examples

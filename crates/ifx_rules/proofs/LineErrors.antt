@@ -1,11 +1,11 @@
 -- The error of what is nowhere steeper than a slope, rounded downward.
-use Rattle.std.specs.Prelude.{◌≡◌, ℕ, ◌*◌, ◌≤◌, ℤ, pos, ◌+ℤ◌, ◌-ℤ◌, ◌*ℤ◌, ◌≤ℤ◌, unsigned_abs}
-use Rattle.std.proofs.Common.{ap, subst, arith, ◌∙◌, mul-le-mul, le_refl}
+use Rattle.std.specs.Prelude.{◌≡◌, ℕ, ◌*◌, ◌≤◌, ℤ, pos, ◌+ℤ◌, ◌*ℤ◌, ◌≤ℤ◌}
+use Rattle.std.proofs.Common.{ap, subst, arith}
 use Rattle.std.proofs.lemmas.Int.{ints}
 use native.Mathlib.Nat.{mul-pos}
 use Rattle.fx_fraction.specs.Fraction.{Fraction, whole, over, plus, distance, AtMost}
 use Rattle.fx_fraction.proofs.Polynomials.{differences, as_difference, same}
-use Rattle.fx_fraction.proofs.WholeNumbers.{int_add_comm, int_le_refl, int_le_trans, int_le-pos, int_le_of-eq, int_le-mul_pos, int_le_of-mul}
+use Rattle.fx_fraction.proofs.WholeNumbers.{int_add_comm, int_le_refl, int_le_trans, int_le-pos, int_le-mul_pos, int_le_of-mul}
 use Rattle.fx_fraction.proofs.Denominators.{is_over, is_whole, is_plus, is_distance, common_two, AtMost-in_cross, AtMost-in, AtMost-out_cross}
 use Rattle.fx_fraction.proofs.Order.{AtMost_trans, AtMost-plus, AtMost_of-Below}
 use Rattle.fx_fraction.proofs.Distances.{distance_triangle}

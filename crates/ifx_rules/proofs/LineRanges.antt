@@ -53,7 +53,7 @@ each_of P (v ∷ vs) h = (h 0 (omega arith), each_of P vs (λ i l. h (suc i) (om
 each_in_hull : (vs : List ℤ) → Each (IsInside (least_among vs) (greatest_among vs)) vs
 each_in_hull vs = each_of (IsInside (least_among vs) (greatest_among vs)) vs (λ i h. record { low = least_among_below vs i h; high = greatest_among_above vs i h })
 
-each_turned : {X : Type 0} (P Q : X → Type 0) → ((x : X) → P x → Q x) → (xs : List X) → Each P xs → Each Q xs
+pub each_turned : {X : Type 0} (P Q : X → Type 0) → ((x : X) → P x → Q x) → (xs : List X) → Each P xs → Each Q xs
 each_turned P Q f [] e = tt
 each_turned P Q f (x ∷ xs) e = (f x e.0, each_turned P Q f xs e.1)
 
@@ -83,9 +83,9 @@ each_inside P b (p ∷ points) h =
 -- ---- at its knots a line has their heights
 
 -- a knot of a line that begins at p is at p or behind it, and has the line's height
-record IsAtKnot (p : Knot) (knots : List Knot) (k : Knot) : Type 0 where
-  behind : p.place ≤ℤ k.place
-  height : Same (line (p ∷ knots) (whole k.place)) (whole k.height)
+pub record IsAtKnot (p : Knot) (knots : List Knot) (k : Knot) : Type 0 where
+  pub behind : p.place ≤ℤ k.place
+  pub height : Same (line (p ∷ knots) (whole k.place)) (whole k.height)
 
 whole_test : (k z : ℤ) → is_at_most (whole k) z ≡ int_le k z
 unfolding whole
@@ -118,7 +118,7 @@ next_knot p q knots k s at = record { behind = int_le_trans _ _ _ (int_le_of-lt 
 first_knot : (p : Knot) (knots : List Knot) → IsAtKnot p knots p
 first_knot p knots = record { behind = int_le_refl p.place; height = same_of _ _ (line-first p knots) }
 
-at_knots : (D G : ℕ) (p : Knot) (knots : List Knot) → AreGentle D G (p ∷ knots) → Each (IsAtKnot p knots) (p ∷ knots)
+pub at_knots : (D G : ℕ) (p : Knot) (knots : List Knot) → AreGentle D G (p ∷ knots) → Each (IsAtKnot p knots) (p ∷ knots)
 at_knots D G p [] s = (first_knot p [], tt)
 at_knots D G p (q ∷ knots) s = (first_knot p (q ∷ knots), each_turned (IsAtKnot q knots) (IsAtKnot p (q ∷ knots)) (λ k at. next_knot p q knots k s.0 at) (q ∷ knots) (at_knots D G q knots s.1))
 

@@ -1,5 +1,5 @@
 -- Positions, curves and curves over positions are broken lines.
-use Rattle.std.specs.Prelude.{◌≡◌, ℕ, suc, ◌*◌, ◌≤◌, Bool, true, false, cond, List, [], ◌∷◌, length, ℤ, pos, ◌+ℤ◌, ◌-ℤ◌, ◌*ℤ◌, ◌≤ℤ◌, ◌<ℤ◌, unsigned_abs, int_le}
+use Rattle.std.specs.Prelude.{◌≡◌, ℕ, ◌*◌, ◌≤◌, Bool, true, false, cond, List, [], ◌∷◌, ℤ, pos, ◌+ℤ◌, ◌-ℤ◌, ◌*ℤ◌, ◌≤ℤ◌, ◌<ℤ◌, unsigned_abs}
 use Rattle.std.proofs.Common.{refl, sym, ap, ap₂, ◌∙◌, subst, arith, zero-mul}
 use native.Mathlib.Nat.{mul-pos}
 use Rattle.std.proofs.lemmas.Int.{ints}
@@ -8,11 +8,11 @@ use Rattle.fx_fraction.proofs.Polynomials.{differences, as_difference, same}
 use Rattle.fx_fraction.proofs.WholeNumbers.{int_le-true, int_le-false, int_le_of-lt, int_mul-one, int_sub-mul, int_add-mul}
 use lib.Signed.{clash_ℤ}
 use Rattle.fx_fraction.proofs.Denominators.{is_self, is_whole, is_plus, is_minus, is_times, is_divided, is_renamed, is_same, Same-in, Same-in_cross, AtMost-in, AtMost-out}
-use Rattle.fx_fraction.proofs.Order.{Same_refl, Same_trans, AtMost_refl, AtMost_trans}
+use Rattle.fx_fraction.proofs.Order.{Same_refl, Same_trans, AtMost_refl}
 use Rattle.ifx_search.specs.Positions.{is_at_most, way_in, position}
 use Rattle.ifx_curves.specs.Curves.{on_way, curve}
 use Rattle.ifx_rules.proofs.Lines.{Knot, between, line}
-use Rattle.ifx_rules.proofs.Slopes.{Spans, IsOn, on_between, int_le_test, at_itself}
+use Rattle.ifx_rules.proofs.Slopes.{Spans, on_between, int_le_test, at_itself}
 
 same_of : (f g : Fraction) → f ≡ g → Same f g
 same_of f g e = subst (λ h. Same f h) e (Same_refl f)
@@ -127,7 +127,7 @@ curve_line_from z v [] s t l = Same_refl (whole v)
 curve_line_from z v (w ∷ values) s t l =
     subst (Same (curve (v ∷ w ∷ values) s))
     (ap₂ (λ a b. cond a (whole v) (cond b (between (record { place = z; height = v }) (record { place = z +ℤ pos 65536; height = w }) t) (line (curve_knots (z +ℤ pos 65536) (w ∷ values)) t)))
-      (test_here s t z l) (test_moved s t z (pos 65536) _ _ l refl refl))
+    (test_here s t z l) (test_moved s t z (pos 65536) _ _ l refl refl))
     (curve_step z v w s t (curve (w ∷ values) (minus s (whole (pos 65536)))) (line (curve_knots (z +ℤ pos 65536) (w ∷ values)) t) (is_at_most s (pos 0)) (is_at_most s (pos 65536)) l (curve_line_from (z +ℤ pos 65536) w values (minus s (whole (pos 65536))) t (further s t z l)))
 
 less_nothing : (t : Fraction) → IsLess t t (pos 0)

@@ -1,20 +1,17 @@
 -- The look-ups as broken lines with the slopes of their rules.
-use Rattle.std.specs.Prelude.{◌≡◌, ℕ, zero, suc, ◌+◌, ◌*◌, ◌-◌, ◌<◌, ◌≤◌, Bool, true, false, nat_lt, min, max, List, [], ◌∷◌, length, map, ℤ, pos, ◌+ℤ◌, ◌-ℤ◌, ◌*ℤ◌, ◌≤ℤ◌, ◌<ℤ◌, unsigned_abs}
+use Rattle.std.specs.Prelude.{◌≡◌, ℕ, zero, suc, ◌+◌, ◌*◌, ◌-◌, ◌<◌, ◌≤◌, Bool, true, false, nat_lt, min, max, List, [], ◌∷◌, length, map, ℤ, pos, ◌+ℤ◌, ◌-ℤ◌, ◌<ℤ◌, unsigned_abs}
 use Rattle.std.specs.List.{range_with_len}
-use Rattle.std.proofs.Common.{refl, sym, ap, ap₂, ◌∙◌, subst, arith, mul-le-mul, le_refl, eq-or-lt_of_le, le_of_mul-le-mul_right, inl, inr, ◌⊎◌, if◌then◌else◌}
+use Rattle.std.proofs.Common.{refl, sym, ap, ◌∙◌, subst, arith, mul-le-mul, le_refl, eq-or-lt_of_le, le_of_mul-le-mul_right, inl, inr, ◌⊎◌, if◌then◌else◌}
 use Rattle.std.proofs.lemmas.Int.{ints}
 use Rattle.std.proofs.lemmas.Bool.Decides.{nat_tests}
-use Rattle.fx_fraction.specs.Fraction.{Fraction}
 use Rattle.ifx_search.specs.Axes.{point_at}
 use Rattle.ifx_search.specs.Positions.{position}
-use Rattle.ifx_curves.specs.Tables.{value_at}
 use Rattle.ifx_curves.specs.Curves.{curve}
 use Rattle.ifx_curves.specs.declared.slopes.Slope.{Slope}
 use Rattle.ifx_curves.specs.Slopes.{step_at, greatest_of_steps, step_of, slope_at, steeper, steepest_of, slope_of}
 use Rattle.ifx_rules.specs.LookUpRules.{gap_at, least_of_gaps, gap_of, whole_positions, curve_over}
 use Rattle.ifx_rules.specs.KeptRules.{AreAxis}
-use Rattle.ifx_rules.proofs.Lines.{Knot}
-use Rattle.ifx_rules.proofs.Slopes.{IsGentle, AreGentle}
+use Rattle.ifx_rules.proofs.Slopes.{AreGentle}
 use Rattle.ifx_rules.proofs.LookUpLines.{position_knots, curve_knots, pair_knots, DoRise, next_up, position_line, curve_line, pair_line}
 use Rattle.ifx_rules.proofs.LineRanges.{IsLine}
 
@@ -62,6 +59,10 @@ position_is_line (p ∷ points) a = record {
   same = position_line p points;
 }
 
+pub position_line_knots : (p : ℤ) (points : List ℤ) (a : AreAxis (p ∷ points)) → (position_is_line (p ∷ points) a).first ∷ (position_is_line (p ∷ points) a).knots ≡ position_knots (pos 0) (p ∷ points)
+unfolding position_is_line
+position_line_knots p points a = refl
+
 pub some_gap_of : (points : List ℤ) → AreAxis points → 1 ≤ gap_of points
 some_gap_of points a = gap_some points (length points - 2) (λ i l. some_gap (point_at points i) (point_at points (suc i)) (a.rising i (omega (arith, a.some))))
 
@@ -97,6 +98,10 @@ curve_is_line (v ∷ values) a = record {
   gentle = gentle_curve (step_of (v ∷ values)) (pos 0) (v ∷ values) (λ i l. step_above (v ∷ values) (length (v ∷ values) - 1) i (omega arith));
   same = curve_line v values;
 }
+
+pub curve_line_knots : (v : ℤ) (values : List ℤ) (some : 2 ≤ length (v ∷ values)) → (curve_is_line (v ∷ values) some).first ∷ (curve_is_line (v ∷ values) some).knots ≡ curve_knots (pos 0) (v ∷ values)
+unfolding curve_is_line
+curve_line_knots v values some = refl
 
 -- ---- curves over an axis: the steepest slope
 
@@ -186,7 +191,7 @@ curve_over_is_line (p ∷ points) (v ∷ values) a e =
     let slope = slope_of (p ∷ points) (v ∷ values) in
     let n = length (v ∷ values) - 2 in
     let steep : (i : ℕ) → suc i < length (p ∷ points) → IsSteeper (p ∷ points) (v ∷ values) slope i =
-        λ i l. steepest (p ∷ points) (v ∷ values) n i (gaps_some (p ∷ points) n a (omega (arith, a.some, e))) (omega (arith, e)) in
+    λ i l. steepest (p ∷ points) (v ∷ values) n i (gaps_some (p ∷ points) n a (omega (arith, a.some, e))) (omega (arith, e)) in
     record {
       first = record { place = p; height = v };
       knots = pair_knots points values;
@@ -194,3 +199,8 @@ curve_over_is_line (p ∷ points) (v ∷ values) a e =
       gentle = gentle_pairs slope.rise slope.run (p ∷ points) (v ∷ values) a.rising (λ i l. slope_out (p ∷ points) (v ∷ values) slope i (steep i l));
       same = λ x. pair_line p v points values x (do_rise (p ∷ points) a.rising);
     }
+
+pub curve_over_line_knots : (p v : ℤ) (points values : List ℤ) (a : AreAxis (p ∷ points)) (e : length (p ∷ points) ≡ length (v ∷ values)) →
+    (curve_over_is_line (p ∷ points) (v ∷ values) a e).first ∷ (curve_over_is_line (p ∷ points) (v ∷ values) a e).knots ≡ pair_knots (p ∷ points) (v ∷ values)
+unfolding curve_over_is_line
+curve_over_line_knots p v points values a e = refl

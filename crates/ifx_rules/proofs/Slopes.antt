@@ -1,10 +1,10 @@
 -- A broken line is no steeper than its steepest segment, over any two points.
 use Rattle.std.specs.Prelude.{◌≡◌, ℕ, ◌+◌, ◌*◌, ◌≤◌, Bool, true, false, cond, List, [], ◌∷◌, ℤ, pos, ◌+ℤ◌, ◌-ℤ◌, ◌*ℤ◌, ◌≤ℤ◌, ◌<ℤ◌, unsigned_abs, int_le}
-use Rattle.std.proofs.Common.{refl, sym, ap, ◌∙◌, subst, arith, mul-le-mul, mul_comm, le_refl, inl, inr, ◌⊎◌}
+use Rattle.std.proofs.Common.{refl, sym, ap, ◌∙◌, subst, arith, mul-le-mul, le_refl, inl, inr, ◌⊎◌}
 use native.Mathlib.Nat.{mul-pos}
 use Rattle.std.proofs.lemmas.Int.{ints}
-use Rattle.fx_fraction.specs.Fraction.{Fraction, denom, whole, plus, minus, times, distance, AtMost, Is}
-use Rattle.fx_fraction.proofs.Polynomials.{differences, as_difference, same, at_most_naturals}
+use Rattle.fx_fraction.specs.Fraction.{Fraction, denom, whole, minus, times, distance, AtMost, Is}
+use Rattle.fx_fraction.proofs.Polynomials.{differences, as_difference, same}
 use Rattle.fx_fraction.proofs.WholeNumbers.{int_sub-mul, int_sub_self, int_mul-one, int_le-true, int_le-false, int_le-pos, le_of-int_le, int_le_of-lt, int_le_of-eq, int_le-mul_pos, unsigned_abs-mul, unsigned_abs-sub_self, unsigned_abs-sub_comm, int_lt_or_le, unsigned_abs-triangle}
 use lib.Signed.{clash_ℤ}
 use Rattle.fx_fraction.proofs.Denominators.{is_self, is_whole, is_plus, is_minus, is_times, is_distance, is_divided, is_renamed, AtMost-in, AtMost-out, Below-in, Below-out, AtMost-in_cross, AtMost-out_cross, common_two, common_three}

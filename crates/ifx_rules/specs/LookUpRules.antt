@@ -7,8 +7,7 @@ use Rattle.fx_core.specs.declared.quotient.Mode.TheVariants.{Floor}
 use Rattle.fx_core.specs.Rounding.{least_quotient_above}
 use Rattle.fx_core.specs.Values.{rounded_fraction}
 use Rattle.part_rules.specs.declared.bounds.Bounds.{Bounds}
-use Rattle.part_rules.specs.Ranges.{corner_values, hull_of}
-pub use Rattle.part_rules.specs.Ranges.{points_inside, corners_at}
+use Rattle.part_rules.specs.Ranges.{corner_values, corners_at, hull_of}
 use Rattle.part_rules.specs.Units.{one_count}
 use Rattle.ifx_search.specs.Axes.{point_at}
 use Rattle.ifx_search.specs.Positions.{position}

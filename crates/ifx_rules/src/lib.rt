@@ -1,7 +1,14 @@
-// The rules of the search on an axis, of curves and of curves over an axis: which bounds each gives is
-// a definition, and these are the laws that they are kept.
+// The rules of the search on an axis, of curves and of curves over an axis: the bounds of what each
+// gives, with their soundness and monotony.
 #![tactic(auto)]
 
+mod gaps;
 mod laws;
+mod look_up_ends;
+mod look_up_errors;
+mod look_up_ranges;
+mod narrowing;
 
+pub use gaps::least_gap;
 pub use laws::{law_of_curves, law_of_curves_over_axes, law_of_positions};
+pub use narrowing::{curve_bounds, curve_over_bounds, position_bounds};
