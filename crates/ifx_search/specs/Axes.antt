@@ -1,5 +1,5 @@
 -- Axes of breakpoints: what an axis is seen as, which points one may have, and why points are refused.
-use Rattle.std.specs.Prelude.{ℕ, zero, suc, ◌-◌, ◌<◌, ◌≤◌, ◌^◌, unsigned_abs, ℤ, pos, ◌+ℤ◌, ◌*ℤ◌, ◌<ℤ◌, int_le, Bool, not, nat_lt, if◌then◌else◌, List, length, get_or, map, Option, Some, None, Result, Ok, Err}
+use Rattle.std.specs.Prelude.{◌≡◌, ℕ, zero, suc, ◌-◌, ◌<◌, ◌≤◌, ◌^◌, unsigned_abs, ℤ, pos, ◌+ℤ◌, ◌*ℤ◌, ◌<ℤ◌, int_le, Bool, not, nat_lt, if◌then◌else◌, List, length, get_or, map, Option, Some, None, Result, Ok, Err}
 use Rattle.std.specs.List.{range_with_len}
 use Rattle.fx_core.specs.declared.word_type.Ty.{Ty}
 use Rattle.fx_core.specs.Types.{Holds, holds, width_of}
@@ -37,6 +37,11 @@ pub record IsAxis (ty : Ty) (points : List ℤ) : Type 0 where
   pub few : length points ≤ 4096
   pub held : (i : ℕ) → i < length points → Holds ty (point_at points i)
   pub rising : (i : ℕ) → suc i < length points → point_at points i <ℤ point_at points (suc i)
+
+-- points that are said to be in equal steps are
+abbrev pub IsSpaced : List ℤ → Option (ℤ × ℤ) → Type 0
+IsSpaced points None = Unit {0}
+IsSpaced points (Some spacing) = points ≡ stepped_points spacing.0 spacing.1 (length points)
 
 -- ---- why points are refused
 

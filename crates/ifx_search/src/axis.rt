@@ -3,7 +3,7 @@
 ghost use Rattle.std.specs.Prelude.{◌≡◌, ◌-◌, ◌<◌, ◌≤◌, ◌^◌, ◌+ℤ◌, ◌*ℤ◌, pos, IfErr, IfOk, OnOk, length, unsigned_abs};
 ghost use Rattle.fx_core.specs.Types.{holds, width_of};
 ghost use Rattle.ifx_search.specs.declared.axis.AxisFault.TheVariants.{OutOfMemory};
-ghost use Rattle.ifx_search.specs.Axes.{IsAxis, IsSmall, axis_fault, cause_of, first_place, grid_points, is_not_above, is_outside, listed_axis, point_at, stepped_axis, stepped_points};
+ghost use Rattle.ifx_search.specs.Axes.{IsAxis, IsSmall, IsSpaced, axis_fault, cause_of, first_place, grid_points, is_not_above, is_outside, listed_axis, point_at, stepped_axis, stepped_points};
 
 use fx_core::Ty;
 use std::alloc::{AllocError, Global};
@@ -149,7 +149,8 @@ impl Axis {
 
     /// The offset and the step of an axis that was made by them.
     pub fn spacing(&self) -> Option<(i64, i64)>
-        ensures { result ≡ self.now.spacing }
+        ensures value { result ≡ self.now.spacing }
+        ensures spaced { IsSpaced self.now.points self.now.spacing }
     {
         match &self.kept {
             Breakpoints::Listed(_) => None,
