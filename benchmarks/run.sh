@@ -217,10 +217,10 @@ network sums.net s32 'wire p s32 = Mfx_Add_s32s32_s32 x y' 'out p'
 row 'product over a third of s32' thirds
 row 'sum of s32' sums
 
-# ---- filters and delays
+# ---- filters, delays and curves
 
-# What one wire more costs a row of the shipped sum, whose output alone is printed: a constant, which every wire costs, a delay, and
-# each filter.
+# What one wire more costs a row of the shipped sum, whose output alone is printed: a constant, which every wire costs, a delay, each
+# filter, and a search and a curve on an axis of 16 points, listed or in equal steps.
 if [ -n "$counted" ]; then
   words_of_more() { words=("$program" run more.net "$1"); }
   cp "$network" more.net
@@ -238,4 +238,11 @@ if [ -n "$counted" ]; then
   more 'a differentiating lag' 'wire f s16 = Efx_DT1Typ2_s16_s16 s 49152 65536'
   more 'an average over 16 rows' 'wire f s16 = Efx_MovAvg_s16_s16 s 16'
   more 'an average over 1024 rows' 'wire f s16 = Efx_MovAvg_s16_s16 s 1024'
+  listed="axis ax s16 $(seq -s ' ' -160 80 1040)"
+  values="table tb s16 $(seq -s ' ' 0 60 900)"
+  more 'a search of 16 points' "$listed" 'wire p dp:ax = Ifx_DPSearch_s16 s ax'
+  more 'a search and a curve' "$listed" "$values" 'wire p dp:ax = Ifx_DPSearch_s16 s ax' 'wire y s16 = Ifx_IpoCur_s16 p tb'
+  more 'a curve over an axis' "$listed" "$values" 'wire z s16 = Ifx_IntIpoCur_s16_s16 s ax tb'
+  more 'a search and a curve, in steps' 'axisstep ax s16 -160 80 16' "$values" 'wire p dp:ax = Ifx_DPSearch_s16 s ax' \
+    'wire y s16 = Ifx_IpoCur_s16 p tb'
 fi

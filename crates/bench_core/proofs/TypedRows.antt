@@ -1,17 +1,18 @@
 -- A row that a recording's header reads has one number of the right kind for each input.
-use Rattle.std.proofs.Common.{◌≡◌, ℕ, zero, suc, ◌+◌, ◌<◌, Bool, true, false, cond, List, [], ◌∷◌, length, take, get_or, ℤ, pos, refl, sym, ap, ◌∙◌, subst, arith, one-add, Result, Ok, Err}
+use Rattle.std.proofs.Common.{◌≡◌, ℕ, zero, suc, ◌+◌, ◌<◌, Bool, true, false, cond, List, [], ◌∷◌, length, take, get_or, ℤ, pos, refl, sym, ap, ◌∙◌, subst, arith, true≢false, one-add, Result, Ok, Err}
 use Rattle.std.specs.Prelude.{ok_or, nat_le}
 use Rattle.std.proofs.lemmas.List.Recursion.{is_count_by}
 use Rattle.fx_core.specs.declared.word_type.Ty.TheVariants.{U8}
 use Rattle.text_words.specs.Numbers.{number_of}
 use Rattle.net_model.specs.declared.wires.WireNo.{WireNo}
 use Rattle.net_model.specs.declared.wires.Kind.{Kind}
-use Rattle.net_model.specs.declared.wires.Kind.TheVariants.{Num}
+use Rattle.net_model.specs.declared.wires.Kind.TheVariants.{Num, Truth, Position}
 use Rattle.net_model.specs.declared.wires.Item.{Item}
 use Rattle.net_model.specs.declared.wires.Item.TheVariants.{Input, Const, Delay, Block as OfBlock}
 use Rattle.net_model.specs.declared.wires.Wire.{Wire}
-use Rattle.net_model.specs.Wires.{NetData, wire_at, is_input, input_place, with_input, inputs_from, inputs_of}
-use Rattle.net_model.specs.Validity.{kind_holds}
+use Rattle.net_model.specs.Wires.{NamedAxis, NetData, wire_at, is_input, input_place, with_input, inputs_from, inputs_of}
+use Rattle.net_model.specs.Validity.{IsValid, is_plain, item_agrees, kind_holds}
+use Rattle.net_model.proofs.ValidityFacts.{good_item-valid}
 use Rattle.net_eval.specs.Typing.{AreTyped}
 use Rattle.rec_csv.specs.declared.columns.Column.{Column}
 use Rattle.rec_csv.specs.declared.faults.HeadFault.TheVariants.{BadLine as HeadBad}
@@ -80,25 +81,25 @@ columns_count fields all (number ∷ numbers) columns h =
 
 -- ---- the values
 
-tested_kind : (column : Column) (value z : ℤ) (passed : Bool) → kind_holds column.kind z ≡ passed → (demand passed (OutOfType column.wire) >>= (λ _. Ok z)) ≡ Ok value → kind_holds column.kind value ≡ true
-tested_kind column value z true is h = let e : z ≡ value = cc in subst (λ v. kind_holds column.kind v ≡ true) e is
+tested_kind : (column : Column) (value z : ℤ) (passed : Bool) → kind_holds [] column.kind z ≡ passed → (demand passed (OutOfType column.wire) >>= (λ _. Ok z)) ≡ Ok value → kind_holds [] column.kind value ≡ true
+tested_kind column value z true is h = let e : z ≡ value = cc in subst (λ v. kind_holds [] column.kind v ≡ true) e is
 tested_kind column value z false is h = absurd (cc)
 
-value_kind : (column : Column) (field : List ℕ) (value : ℤ) → input_value column field ≡ Ok value → kind_holds column.kind value ≡ true
+value_kind : (column : Column) (field : List ℕ) (value : ℤ) → input_value column field ≡ Ok value → kind_holds [] column.kind value ≡ true
 unfolding input_value
 value_kind column field value h =
-    let p = then_ok (ok_or (number_of (trimmed field)) (BadNumber column.wire)) (λ z. demand (kind_holds column.kind z) (OutOfType column.wire) >>= (λ _. Ok z)) value h in
-    tested_kind column value p.0 (kind_holds column.kind p.0) refl p.2
+    let p = then_ok (ok_or (number_of (trimmed field)) (BadNumber column.wire)) (λ z. demand (kind_holds [] column.kind z) (OutOfType column.wire) >>= (λ _. Ok z)) value h in
+    tested_kind column value p.0 (kind_holds [] column.kind p.0) refl p.2
 
-value_kinds : (columns : List Column) (fields : List (List ℕ)) (values : List ℤ) (k : ℕ) → input_values columns fields ≡ Ok values → k < length columns → kind_holds (get_or columns k no_column).kind (get_or values k (pos 0)) ≡ true
+value_kinds : (columns : List Column) (fields : List (List ℕ)) (values : List ℤ) (k : ℕ) → input_values columns fields ≡ Ok values → k < length columns → kind_holds [] (get_or columns k no_column).kind (get_or values k (pos 0)) ≡ true
 unfolding input_values
 value_kinds [] fields values k h lt = absurd (omega arith)
 value_kinds (column ∷ columns) fields values zero h lt =
     let p = both_ok (input_value column (field_in fields column.place)) (input_values columns fields) (λ v vs. v ∷ vs) values h in
-    subst (λ vs. kind_holds column.kind (get_or vs 0 (pos 0)) ≡ true) (sym p.4) (value_kind column (field_in fields column.place) p.0 p.2)
+    subst (λ vs. kind_holds [] column.kind (get_or vs 0 (pos 0)) ≡ true) (sym p.4) (value_kind column (field_in fields column.place) p.0 p.2)
 value_kinds (column ∷ columns) fields values (suc k) h lt =
     let p = both_ok (input_value column (field_in fields column.place)) (input_values columns fields) (λ v vs. v ∷ vs) values h in
-    subst (λ vs. kind_holds (get_or columns k no_column).kind (get_or vs (suc k) (pos 0)) ≡ true) (sym p.4) (value_kinds columns fields p.1 k p.3 (omega arith))
+    subst (λ vs. kind_holds [] (get_or columns k no_column).kind (get_or vs (suc k) (pos 0)) ≡ true) (sym p.4) (value_kinds columns fields p.1 k p.3 (omega arith))
 
 -- ---- the place of an input
 
@@ -140,6 +141,25 @@ numbered wires i lt h =
     let e : 0 + i ≡ i = omega arith in
     subst (IsNumbered (inputs_of wires) (input_place wires i)) e (subst (λ n. IsNumbered (inputs_of wires) n (0 + i)) (input_count-is wires i) (numbered_from wires 0 i lt h))
 
+-- ---- inputs are plain
+
+plain_item : (net : NetData) (kind : Kind) (item : Item) → is_input item ≡ true → item_agrees net kind item ≡ true → is_plain kind ≡ true
+plain_item net kind (Input lo hi) h agreed = agreed
+plain_item net kind (Const value) h agreed = absurd (true≢false (sym h))
+plain_item net kind (Delay init source) h agreed = absurd (true≢false (sym h))
+plain_item net kind (OfBlock b) h agreed = absurd (true≢false (sym h))
+
+-- an input is no position
+plain_input : (net : NetData) (i : ℕ) → IsValid net → i < length net.wires → is_input (wire_at net.wires i).item ≡ true → is_plain (wire_at net.wires i).kind ≡ true
+plain_input net i valid lt h =
+    let w = wire_at net.wires i in plain_item net w.kind w.item h (good_item-valid net i w.item valid lt refl).agreed
+
+-- so its numbers hang on no axis
+plain_holds : (axes : List NamedAxis) (kind : Kind) (v : ℤ) → is_plain kind ≡ true → kind_holds [] kind v ≡ true → kind_holds axes kind v ≡ true
+plain_holds axes (Num ty point) v plain h = h
+plain_holds axes Truth v plain h = h
+plain_holds axes (Position axis) v plain h = absurd (true≢false (sym plain))
+
 -- ---- a row
 
 header_columns : (wires : List Wire) (head : List ℕ) (header : HeaderData) → header_of wires head ≡ Ok header → (fields : List (List ℕ)) × (columns_of fields wires (inputs_of wires) ≡ Ok header.columns)
@@ -157,20 +177,21 @@ row_values header line values h =
     let q = then_ok (demand (nat_le header.width (length p.0)) BadWidth) (λ _. input_values header.columns p.0) values p.2 in
     (p.0, q.2)
 
-row_is_typed : (net : NetData) (head line : List ℕ) (header : HeaderData) (values : List ℤ) → header_of net.wires head ≡ Ok header → row_of header line ≡ Ok values → AreTyped net values
-row_is_typed net head line header values is_header is_row i lt input =
+row_is_typed : (net : NetData) (head line : List ℕ) (header : HeaderData) (values : List ℤ) → IsValid net → header_of net.wires head ≡ Ok header → row_of header line ≡ Ok values → AreTyped net values
+row_is_typed net head line header values valid is_header is_row i lt input =
     let h = header_columns net.wires head header is_header in
     let r = row_values header line values is_row in
     let n = numbered net.wires i lt input in
     let k = column_kinds h.0 net.wires (inputs_of net.wires) header.columns (input_place net.wires i) h.1 n.0 in
     let v = value_kinds header.columns r.0 values (input_place net.wires i) r.1 k.0 in
     let same : (get_or header.columns (input_place net.wires i) no_column).kind ≡ (wire_at net.wires i).kind = k.1 ∙ ap (λ w. (wire_at net.wires w).kind) n.1 in
-    subst (λ kind. kind_holds kind (get_or values (input_place net.wires i) (pos 0)) ≡ true) same v
+    let value = get_or values (input_place net.wires i) (pos 0) in
+    plain_holds net.axes (wire_at net.wires i).kind value (plain_input net i valid lt input) (subst (λ kind. kind_holds [] kind value ≡ true) same v)
 
 -- ---- for the header of some line
 
-pub typed_row : (net : NetData) (header : HeaderData) (line : List ℕ) (values : List ℤ) → IsHeaderOf net.wires header → row_of header line ≡ Ok values → AreTyped net values
-typed_row net header line values head is = row_is_typed net head.0 line header values head.1 is
+pub typed_row : (net : NetData) (header : HeaderData) (line : List ℕ) (values : List ℤ) → IsValid net → IsHeaderOf net.wires header → row_of header line ≡ Ok values → AreTyped net values
+typed_row net header line values valid head is = row_is_typed net head.0 line header values valid head.1 is
 
 pub one_for_each : (wires : List Wire) (header : HeaderData) (values : List ℤ) → IsHeaderOf wires header → length values ≡ length (inputs_of wires) → length values ≡ length header.columns
 one_for_each wires header values head len =

@@ -1,6 +1,7 @@
 // A network that is evaluated on the rows of a recording.
 ghost use Rattle.std.specs.Prelude.{◌≡◌, [], IfOk, IfErr, OnOk, length};
 ghost use Rattle.net_model.specs.Wires.{inputs_of};
+ghost use Rattle.net_model.specs.Validity.{IsValid};
 ghost use Rattle.net_eval.specs.After.{IsAfter};
 ghost use Rattle.rec_csv.specs.Rows.{Tells, row_of};
 ghost use Rattle.bench_core.specs.RunSteps.{Evaluates, EvaluatesRow, IsHeaderOf, KeepsText};
@@ -24,13 +25,15 @@ pub(crate) struct Evaluation<'a> {
 impl<'a> Model for Evaluation<'a> {
     ghost use Rattle.std.specs.Prelude.{◌≡◌, length};
     ghost use Rattle.net_model.specs.Wires.{inputs_of};
+    ghost use Rattle.net_model.specs.Validity.{IsValid};
     ghost use Rattle.net_eval.specs.After.{PlanData};
 
     ghost Value = { PlanData };
 
     ghost view = { λ e. e.plan };
 
-    ghost invariant = { λ e. (length e.values.items ≡ length (inputs_of e.plan.net.wires))
+    ghost invariant = { λ e. IsValid e.plan.net
+        × (length e.values.items ≡ length (inputs_of e.plan.net.wires))
         × (length e.outputs.items ≡ length e.plan.net.outs) };
 }
 
@@ -92,6 +95,7 @@ fn evaluate(
     values: &mut [i64],
     outputs: &mut [i64],
 ) -> Result<(), RowFault>
+    requires valid { IsValid plan.old.net }
     requires header { IsHeaderOf plan.old.net.wires header.now }
     requires inputs { length values.old ≡ length (inputs_of plan.old.net.wires) }
     requires room { length outputs.old ≡ length plan.old.net.outs }

@@ -16,6 +16,8 @@ same = record { x = S16; y = S16; o = S16 }
 
 net : NetData
 net = record {
+  axes = [];
+  tables = [];
   wires =
       record { name = codes "a"; kind = Num S16 0; item = Input (pos 0) (pos 9) } ∷
       record { name = codes "b"; kind = Num S16 0; item = Input (pos 0) (pos 9) } ∷

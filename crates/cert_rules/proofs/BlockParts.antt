@@ -50,7 +50,7 @@ plain_keeps : (net : NetData) (i : ℕ) (b : Block) (known : Part → Bounds) (r
     rule.reads ≡ values_read b →
     KeepsRule rule (plain_meaning net kind b) (FitReads net rule.reads) →
     ((values : ℕ → ℕ → Fraction) → quotient_of net kind b (read_values b values) ≡ quotient_of net kind b (λ p ago. values 0 (argument_of b p))) →
-    (equation_of machine net rows m i (OfBlock b)).value_unsaturated ≡ unsaturated (mode_of b) (kind_least kind) (kind_greatest kind) (quotient_of net kind b (λ p ago. whole (values_now b m p))) (formula net kind b (λ p ago. whole (values_now b m p)) (whole (pos 0))) →
+    (equation_of machine net rows m i (OfBlock b)).value_unsaturated ≡ unsaturated (mode_of b) (kind_least net.axes kind) (kind_greatest net.axes kind) (quotient_of net kind b (λ p ago. whole (values_now b m p))) (formula net kind b (λ p ago. whole (values_now b m p)) (whole (pos 0))) →
     (equation_of exact net rows e i (OfBlock b)).value ≡ formula net kind b (λ p ago. values_now b e p) (whole (pos 0)) →
     FitReads net rule.reads (bounds_read rule.reads known) → ReadsWithin net rule.reads known m e → given_by rule known ≡ Some bounds → PartKeeps net i Value (OfBlock b) rows m e bounds
 plain_keeps net i b known rows m e bounds reads keeps quotient value exactly fit within given =
@@ -61,7 +61,7 @@ plain_keeps net i b known rows m e bounds reads keeps quotient value exactly fit
     record {
       machine_divides = rw (quotient (as_fractions (wire_values m))) k.machine_divides;
       exact_divides = rw (quotient (wire_values e)) k.exact_divides;
-      within = within_at bounds _ _ _ _ (value ∙ not_by_zero (mode_of b) (kind_least kind) (kind_greatest kind) (quotient_of net kind b (λ p ago. whole (values_now b m p))) (formula net kind b (λ p ago. whole (values_now b m p)) (whole (pos 0))) k.machine_divides) exactly (rw r.same at k.within);
+      within = within_at bounds _ _ _ _ (value ∙ not_by_zero (mode_of b) (kind_least net.axes kind) (kind_greatest net.axes kind) (quotient_of net kind b (λ p ago. whole (values_now b m p))) (formula net kind b (λ p ago. whole (values_now b m p)) (whole (pos 0))) k.machine_divides) exactly (rw r.same at k.within);
     }
 
 -- ---- the value of each block

@@ -1,18 +1,20 @@
 -- What the tests of an entry say, and how small allowed entries of values are.
-use Rattle.std.proofs.Common.{◌≡◌, ℕ, zero, suc, ◌<◌, ◌≤◌, ◌^◌, Bool, true, ◌&&◌, length, List, [], ◌∷◌, get_or, arith, refl, subst, pos, negsuc, ◌≤ℤ◌, int_le, int_lt, sym, ap, ◌∙◌, Fits, w32, Fits-le, Fits-lit}
+use Rattle.std.proofs.Common.{◌≡◌, ℕ, zero, suc, ◌-◌, ◌*◌, ◌<◌, ◌≤◌, ◌^◌, Bool, true, ◌&&◌, length, List, [], ◌∷◌, get_or, arith, refl, subst, pos, negsuc, ◌≤ℤ◌, int_le, int_lt, sym, ap, ◌∙◌, Fits, w32, Fits-le, Fits-lit}
 use Rattle.std.proofs.lemmas.Bool.{and_parts}
+use Rattle.std.proofs.lemmas.Int.{ints}
 use Rattle.fx_fraction.proofs.WholeNumbers.{int_le-true, int_lt-true, int_le_trans}
 use Rattle.fx_core.specs.declared.word_type.Ty.{Ty}
 use Rattle.fx_core.specs.declared.word_type.Ty.TheVariants.{U8, S8, U16, S16, U32, S32}
 use Rattle.fx_core.specs.Types.{least_of, greatest_of}
 use Rattle.net_model.specs.declared.wires.Kind.{Kind}
-use Rattle.net_model.specs.declared.wires.Kind.TheVariants.{Num, Truth}
+use Rattle.net_model.specs.declared.wires.Kind.TheVariants.{Num, Truth, Position}
 use Rattle.net_model.specs.declared.wires.Role.{Role}
 use Rattle.net_model.specs.declared.wires.Role.TheVariants.{Y, X1, X2, W, Value}
 use Rattle.net_model.specs.declared.wires.Part.{Part}
-use Rattle.net_model.specs.Wires.{NetData, wire_at, kind_least, kind_greatest, no_part, point_of, parts_of}
-use Rattle.net_model.specs.Validity.{IsValid}
+use Rattle.net_model.specs.Wires.{NamedAxis, NetData, axis_at, wire_at, kind_least, kind_greatest, no_part, point_of, parts_of}
+use Rattle.net_model.specs.Validity.{AreAxes, IsValid}
 use Rattle.net_model.proofs.ValidityFacts.{point_of-valid}
+use Rattle.net_model.proofs.HeldKinds.{few_points}
 use Rattle.net_model.proofs.PartPlaces.{few_parts, part_there}
 use Rattle.part_rules.specs.declared.bounds.Bounds.{Bounds}
 use Rattle.part_rules.specs.Entries.{IsSmall}
@@ -41,13 +43,18 @@ greatest_of-high S16 = record { le = tt }
 greatest_of-high U32 = record { le = tt }
 greatest_of-high S32 = record { le = tt }
 
-pub kind_least-low : (kind : Kind) → negsuc 2147483647 ≤ℤ kind_least kind
-kind_least-low (Num ty point) = least_of-low ty
-kind_least-low Truth = record { le = tt }
+kind_least-low : (axes : List NamedAxis) (kind : Kind) → negsuc 2147483647 ≤ℤ kind_least axes kind
+kind_least-low axes (Num ty point) = least_of-low ty
+kind_least-low axes Truth = record { le = tt }
+kind_least-low axes (Position axis) = record { le = tt }
 
-pub kind_greatest-high : (kind : Kind) → kind_greatest kind ≤ℤ pos 4294967295
-kind_greatest-high (Num ty point) = greatest_of-high ty
-kind_greatest-high Truth = record { le = tt }
+position-high : (n : ℕ) → n ≤ 4096 → pos (65536 * (n - 1)) ≤ℤ pos 4294967295
+position-high n few = omega (arith, ints)
+
+kind_greatest-high : (axes : List NamedAxis) (kind : Kind) → AreAxes axes → kind_greatest axes kind ≤ℤ pos 4294967295
+kind_greatest-high axes (Num ty point) valid = greatest_of-high ty
+kind_greatest-high axes Truth valid = record { le = tt }
+kind_greatest-high axes (Position axis) valid = position-high (length (axis_at axes axis).points) (few_points axes valid axis)
 
 pub three_tests : (a b c : Bool) → (a && b && c) ≡ true → (a ≡ true) × (b ≡ true) × (c ≡ true)
 three_tests a b c h =
@@ -88,25 +95,25 @@ allowed_entry net part b h =
       proper = record { ordered = int_le-true b.lo b.hi t.1; positive = int_le-true (pos 0) b.err t.2 };
     }
 
-small_by : (kind : Kind) (b : Bounds) → kind_least kind ≤ℤ b.lo → b.hi ≤ℤ kind_greatest kind → int_lt b.err (pos (2 ^ 40)) ≡ true → IsProper b → IsSmall b
-small_by kind b low high near proper = record {
-  low = int_le_trans _ _ _ (kind_least-low kind) low;
+small_by : (axes : List NamedAxis) (kind : Kind) (b : Bounds) → AreAxes axes → kind_least axes kind ≤ℤ b.lo → b.hi ≤ℤ kind_greatest axes kind → int_lt b.err (pos (2 ^ 40)) ≡ true → IsProper b → IsSmall b
+small_by axes kind b valid low high near proper = record {
+  low = int_le_trans _ _ _ (kind_least-low axes kind) low;
   ordered = proper.ordered;
-  high = int_le_trans _ _ _ high (kind_greatest-high kind);
+  high = int_le_trans _ _ _ high (kind_greatest-high axes kind valid);
   positive = proper.positive;
   near = int_lt-true b.err (pos (2 ^ 40)) near;
 }
 
 -- allowed bounds of a part whose range isn't empty and whose error isn't negative are small enough for its role
-sized_by : (role : Role) (kind : Kind) (b : Bounds) → least_by_role kind role ≤ℤ b.lo → b.hi ≤ℤ greatest_by_role kind role → int_lt b.err (cap_of_role role) ≡ true → IsProper b → IsSized role b
-sized_by Y kind b low high near proper = record { low = low; ordered = proper.ordered; high = high; positive = proper.positive; near = int_lt-true b.err (pos (2 ^ 56)) near }
-sized_by Value kind b low high near proper = small_by kind b low high near proper
-sized_by X1 kind b low high near proper = small_by kind b low high near proper
-sized_by X2 kind b low high near proper = small_by kind b low high near proper
-sized_by W kind b low high near proper = small_by kind b low high near proper
+sized_by : (axes : List NamedAxis) (role : Role) (kind : Kind) (b : Bounds) → AreAxes axes → least_by_role axes kind role ≤ℤ b.lo → b.hi ≤ℤ greatest_by_role axes kind role → int_lt b.err (cap_of_role role) ≡ true → IsProper b → IsSized role b
+sized_by axes Y kind b valid low high near proper = record { low = low; ordered = proper.ordered; high = high; positive = proper.positive; near = int_lt-true b.err (pos (2 ^ 56)) near }
+sized_by axes Value kind b valid low high near proper = small_by axes kind b valid low high near proper
+sized_by axes X1 kind b valid low high near proper = small_by axes kind b valid low high near proper
+sized_by axes X2 kind b valid low high near proper = small_by axes kind b valid low high near proper
+sized_by axes W kind b valid low high near proper = small_by axes kind b valid low high near proper
 
-pub sized_entry : (net : NetData) (part : Part) (b : Bounds) → AreBetween net part b → IsProper b → IsSized part.role b
-sized_entry net part b between proper = sized_by part.role (kind_of_part net part) b between.low between.high between.near proper
+pub sized_entry : (net : NetData) (part : Part) (b : Bounds) → IsValid net → AreBetween net part b → IsProper b → IsSized part.role b
+sized_entry net part b valid between proper = sized_by net.axes part.role (kind_of_part net part) b valid.axes between.low between.high between.near proper
 
 -- no bounds are small
 pub small_none : IsSmall no_bounds

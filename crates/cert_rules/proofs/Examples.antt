@@ -1,13 +1,18 @@
--- A worked network by the definitions: `b` at the binary point 4 is converted to the point 0 and added to `a`. Its
+-- Worked networks by the definitions. The first: `b` at the binary point 4 is converted to the point 0 and added to `a`. Its
 -- certificate is accepted; with a smaller error of the conversion, or a smaller range of the sum, the part fails.
 use Rattle.std.specs.Prelude.{◌≡◌, ℕ, ℤ, List, [], ◌∷◌, pos, negsuc, Some, None, refl, codes}
 use Rattle.fx_core.specs.Rounding.{rounded, least_quotient_above}
-use Rattle.fx_fraction.specs.Fraction.{whole, over, plus, times, quotient, divided}
+use Rattle.fx_fraction.specs.Fraction.{whole, over, plus, minus, times, quotient, divided}
 use Rattle.fx_core.specs.declared.word_type.Ty.TheVariants.{S16, S32}
 use Rattle.fx_routines.specs.declared.operation.ArithOp.TheVariants.{Add, Mul, Div}
 use Rattle.fx_routines.specs.declared.operation.ScaledOp.TheVariants.{Convert}
-use Rattle.net_model.specs.declared.wires.Kind.TheVariants.{Num}
-use Rattle.net_model.specs.declared.wires.Block.TheVariants.{Arith, Scaled}
+use Rattle.fx_routines.specs.declared.interpolation.CurveOp.TheVariants.{Ipo}
+use Rattle.ifx_search.specs.Positions.{position, way_in}
+use Rattle.ifx_curves.specs.Curves.{curve, on_way}
+use Rattle.ifx_curves.specs.Slopes.{greatest_of_steps, steepest_of}
+use Rattle.ifx_rules.specs.LookUpRules.{curve_bounds, curve_over_bounds, least_of_gaps, position_bounds}
+use Rattle.net_model.specs.declared.wires.Kind.TheVariants.{Num, Position}
+use Rattle.net_model.specs.declared.wires.Block.TheVariants.{Arith, Scaled, Search, Curve, IntCurve}
 use Rattle.net_model.specs.declared.wires.Item.TheVariants.{Input, Block as OfBlock}
 use Rattle.net_model.specs.Wires.{NetData}
 use Rattle.mfx_scaled.specs.Formulas.{point_factor}
@@ -21,6 +26,8 @@ use Rattle.cert_rules.specs.Acceptance.{is_allowed_at, is_inductive_at, first_fa
 
 net : NetData
 net = record {
+  axes = [];
+  tables = [];
   wires =
       record { name = codes "a"; kind = Num S16 0; item = Input (pos 0) (pos 1000) } ∷
       record { name = codes "b"; kind = Num S16 4; item = Input (negsuc 159) (pos 160) } ∷
@@ -51,6 +58,8 @@ range_too_small = refl
 -- a product and a quotient of `x` and `z`: a quotient is rounded, so its error is one raw count
 quotient_net : NetData
 quotient_net = record {
+  axes = [];
+  tables = [];
   wires =
       record { name = codes "x"; kind = Num S16 0; item = Input (negsuc 2) (pos 5) } ∷
       record { name = codes "z"; kind = Num S16 0; item = Input (pos 2) (pos 4) } ∷
@@ -78,3 +87,38 @@ quotient_error_too_small = refl
 divisor_may_be_zero : first_failing (is_inductive_at quotient_net (quotient_entries (pos 0) 65536)) 3 1 ≡ Some 3
 unfolding quotient_net quotient_entries first_rejected first_failing is_allowed_at is_inductive_at rule_of is_allowed block_rule arith_bounds arith_values product_error quotient_error entry_of rounded least_quotient_above quotient divided whole times
 divisor_may_be_zero = refl
+
+-- a position of `x` on an axis of 0, 10 and 30, the curve through 0, 100 and 50 at that position, and the same curve at `x`, which
+-- is rounded once and not twice
+looking : NetData
+looking = record {
+  axes = (codes "points", record { ty = S16; points = pos 0 ∷ pos 10 ∷ pos 30 ∷ []; spacing = None }) ∷ [];
+  tables = (codes "heights", record { ty = S16; values = pos 0 ∷ pos 100 ∷ pos 50 ∷ [] }) ∷ [];
+  wires =
+      record { name = codes "x"; kind = Num S16 0; item = Input (pos 0) (pos 30) } ∷
+      record { name = codes "p"; kind = Position 0; item = OfBlock (Search S16 (record { 0 = 0 }) 0) } ∷
+      record { name = codes "c"; kind = Num S16 0; item = OfBlock (Curve Ipo (record { 0 = 1 }) 0) } ∷
+      record { name = codes "d"; kind = Num S16 0; item = OfBlock (IntCurve Ipo (record { 0 = 0 }) 0 0) } ∷ [];
+  outs = [];
+}
+
+looking_entries : ℕ → ℕ → List Bounds
+looking_entries last error =
+    record { lo = pos 0; hi = pos 30; err = pos 0 } ∷
+    record { lo = pos 0; hi = pos last; err = pos 65536 } ∷
+    record { lo = pos 0; hi = pos 100; err = pos error } ∷
+    record { lo = pos 0; hi = pos 100; err = pos 65536 } ∷ []
+
+looking_accepted : first_rejected looking (looking_entries 131072 65636) ≡ None
+unfolding looking looking_entries first_rejected first_failing is_allowed_at is_inductive_at rule_of is_allowed block_rule position_bounds curve_bounds curve_over_bounds least_of_gaps greatest_of_steps steepest_of position way_in curve on_way entry_of rounded least_quotient_above quotient divided whole plus minus times
+looking_accepted = refl
+
+-- the curve at a position has the position's error besides its own
+curve_error_too_small : first_rejected looking (looking_entries 131072 65635) ≡ Some 2
+unfolding looking looking_entries first_rejected first_failing is_allowed_at is_inductive_at rule_of is_allowed block_rule position_bounds curve_bounds curve_over_bounds least_of_gaps greatest_of_steps steepest_of position way_in curve on_way entry_of rounded least_quotient_above quotient divided whole plus minus times
+curve_error_too_small = refl
+
+-- no position is behind the last point of its axis
+position_too_far : first_rejected looking (looking_entries 131073 65636) ≡ Some 1
+unfolding looking looking_entries first_rejected first_failing is_allowed_at is_inductive_at rule_of is_allowed block_rule position_bounds curve_bounds curve_over_bounds least_of_gaps greatest_of_steps steepest_of position way_in curve on_way entry_of rounded least_quotient_above quotient divided whole plus minus times
+position_too_far = refl

@@ -54,11 +54,11 @@ pub state_rule_is : (net : NetData) (i : ℕ) (b : Block) (role : Role) → role
 unfolding block_rule
 state_rule_is net i b role e = rw e refl
 
-pub kept_gives : (net : NetData) (i : ℕ) (b : Block) (role : Role) (given : Given) (known : List Bounds) (keeps : Bool) (result : Option Bounds) → IsKeptRole role → AreSized (block_rule net i b role).reads given → AreGiven given known → keeps ≡ has_role role (block_roles b) → result ≡ cond keeps (Some given.first) None → result ≡ cond ((block_rule net i b role).fails known) None (if_sized role ((block_rule net i b role).bounds known))
+pub kept_gives : (net : NetData) (i : ℕ) (b : Block) (role : Role) (given : Given) (known : List Bounds) (keeps : Bool) (result : Option Bounds) → IsKeptRole role → AreSized net (block_rule net i b role).reads given → AreGiven given known → keeps ≡ has_role role (block_roles b) → result ≡ cond keeps (Some given.first) None → result ≡ cond ((block_rule net i b role).fails known) None (if_sized role ((block_rule net i b role).bounds known))
 kept_gives net i b role given known keeps result kept sized g e f =
     let same = kept_rule_is net i b role kept in
     subst (λ (r : PartRule Part). result ≡ cond (r.fails known) None (if_sized role (r.bounds known))) (sym same)
-    (kept_returns net i b role given known keeps result (kept_role role kept) (subst (λ (r : PartRule Part). AreSized r.reads given) same sized) g e f)
+    (kept_returns net i b role given known keeps result (kept_role role kept) (subst (λ (r : PartRule Part). AreSized net r.reads given) same sized) g e f)
 
 -- a role is among others
 pub any_has : (role : Role) (roles : List Role) → list_any (λ r. same_role r role) roles ≡ has_role role roles
@@ -127,9 +127,9 @@ pub record AreSmall (given : Given) : Type 0 where
   pub second : IsSmall given.second
   pub third : IsSmall given.third
 
-values_small : (b : Block) (reads : List (Reading Part)) (given : Given) → reads ≡ values_read b → AreSized reads given → AreSmall given
-values_small b reads given same sized =
-    let s : AreSized (values_read b) given = rw same at sized in
+values_small : (net : NetData) (b : Block) (reads : List (Reading Part)) (given : Given) → reads ≡ values_read b → AreSized net reads given → AreSmall given
+values_small net b reads given same sized =
+    let s : AreSized net (values_read b) given = rw same at sized in
     record {
       first = subst (λ role. IsSized role given.first) (value_role (form_of b).wires 0) s.first;
       second = subst (λ role. IsSized role given.second) (value_role (form_of b).wires 1) s.second;
@@ -137,27 +137,27 @@ values_small b reads given same sized =
     }
 
 -- what the value of a block is given
-pub value_sized : (net : NetData) (i : ℕ) (b : Block) (given : Given) → AreSized (block_rule net i b Value).reads given → AreSized (value_rule_of net i b).reads given
+pub value_sized : (net : NetData) (i : ℕ) (b : Block) (given : Given) → AreSized net (block_rule net i b Value).reads given → AreSized net (value_rule_of net i b).reads given
 unfolding block_rule
 value_sized net i b given s = s
 
-pub plain_small : (net : NetData) (i : ℕ) (b : Block) (given : Given) → AreSized (block_rule net i b Value).reads given → is_plain b ≡ true → AreSmall given
-plain_small net i b given sized plain = values_small b _ given (plain_reads net i b plain) (value_sized net i b given sized)
+pub plain_small : (net : NetData) (i : ℕ) (b : Block) (given : Given) → AreSized net (block_rule net i b Value).reads given → is_plain b ≡ true → AreSmall given
+plain_small net i b given sized plain = values_small net b _ given (plain_reads net i b plain) (value_sized net i b given sized)
 
-pub gain_small : (net : NetData) (i : ℕ) (b : Block) (xty ty : Ty) (x : WireNo) (k : ℤ) (given : Given) → AreSized (block_rule net i b Value).reads given → b ≡ Gain xty ty x k → IsSmall given.first
+pub gain_small : (net : NetData) (i : ℕ) (b : Block) (xty ty : Ty) (x : WireNo) (k : ℤ) (given : Given) → AreSized net (block_rule net i b Value).reads given → b ≡ Gain xty ty x k → IsSmall given.first
 gain_small net i b xty ty x k given sized is = (value_sized net i (Gain xty ty x k) given (rw is at sized)).first
 
-pub average_small : (net : NetData) (i : ℕ) (b : Block) (xty ty : Ty) (x : WireNo) (n : ℕ) (given : Given) → AreSized (block_rule net i b Value).reads given → b ≡ Average xty ty x n → IsSmall given.first × IsSmall given.second
+pub average_small : (net : NetData) (i : ℕ) (b : Block) (xty ty : Ty) (x : WireNo) (n : ℕ) (given : Given) → AreSized net (block_rule net i b Value).reads given → b ≡ Average xty ty x n → IsSmall given.first × IsSmall given.second
 average_small net i b xty ty x n given sized is = let s = value_sized net i (Average xty ty x n) given (rw is at sized) in (s.first, s.second)
 
-pub pt1_state : (net : NetData) (i : ℕ) (b : Block) (xty ty : Ty) (x : WireNo) (teq : ℕ) (k : ℤ) (given : Given) → AreSized (block_rule net i b Value).reads given → b ≡ Pt1 xty ty x teq k → IsState given.first
+pub pt1_state : (net : NetData) (i : ℕ) (b : Block) (xty ty : Ty) (x : WireNo) (teq : ℕ) (k : ℤ) (given : Given) → AreSized net (block_rule net i b Value).reads given → b ≡ Pt1 xty ty x teq k → IsState given.first
 pt1_state net i b xty ty x teq k given sized is = (value_sized net i (Pt1 xty ty x teq k) given (rw is at sized)).first
 
-pub dt1_state : (net : NetData) (i : ℕ) (b : Block) (second : Bool) (xty ty : Ty) (x : WireNo) (teq : ℕ) (k : ℤ) (given : Given) → AreSized (block_rule net i b Value).reads given → b ≡ Dt1 second xty ty x teq k → IsState given.first
+pub dt1_state : (net : NetData) (i : ℕ) (b : Block) (second : Bool) (xty ty : Ty) (x : WireNo) (teq : ℕ) (k : ℤ) (given : Given) → AreSized net (block_rule net i b Value).reads given → b ≡ Dt1 second xty ty x teq k → IsState given.first
 dt1_state net i b second xty ty x teq k given sized is = (value_sized net i (Dt1 second xty ty x teq k) given (rw is at sized)).first
 
 -- what its state is given
-state_sized : (net : NetData) (i : ℕ) (b : Block) (given : Given) → AreSized (block_rule net i b Y).reads given → AreSized (state_rule_of i b).reads given
+state_sized : (net : NetData) (i : ℕ) (b : Block) (given : Given) → AreSized net (block_rule net i b Y).reads given → AreSized net (state_rule_of i b).reads given
 unfolding block_rule
 state_sized net i b given s = s
 
@@ -167,12 +167,12 @@ pub record IsLagGiven (teq : ℕ) (given : Given) : Type 0 where
   pub state : IsState given.first
   pub second : IsSmall given.second
 
-pub pt1_given : (net : NetData) (i : ℕ) (b : Block) (xty ty : Ty) (x : WireNo) (teq : ℕ) (k : ℤ) (given : Given) → IsValid net → i < length net.wires → (wire_at net.wires i).item ≡ OfBlock b → AreSized (block_rule net i b Y).reads given → b ≡ Pt1 xty ty x teq k → IsLagGiven teq given
+pub pt1_given : (net : NetData) (i : ℕ) (b : Block) (xty ty : Ty) (x : WireNo) (teq : ℕ) (k : ℤ) (given : Given) → IsValid net → i < length net.wires → (wire_at net.wires i).item ≡ OfBlock b → AreSized net (block_rule net i b Y).reads given → b ≡ Pt1 xty ty x teq k → IsLagGiven teq given
 pt1_given net i b xty ty x teq k given valid h here sized is =
     let s = state_sized net i (Pt1 xty ty x teq k) given (rw is at sized) in
     record { weight = (pt1-valid net i xty ty x teq k valid h (here ∙ ap OfBlock is)).weight; state = s.first; second = s.second }
 
-pub dt1_given : (net : NetData) (i : ℕ) (b : Block) (second : Bool) (xty ty : Ty) (x : WireNo) (teq : ℕ) (k : ℤ) (given : Given) → IsValid net → i < length net.wires → (wire_at net.wires i).item ≡ OfBlock b → AreSized (block_rule net i b Y).reads given → b ≡ Dt1 second xty ty x teq k → IsLagGiven teq given × IsSmall given.third
+pub dt1_given : (net : NetData) (i : ℕ) (b : Block) (second : Bool) (xty ty : Ty) (x : WireNo) (teq : ℕ) (k : ℤ) (given : Given) → IsValid net → i < length net.wires → (wire_at net.wires i).item ≡ OfBlock b → AreSized net (block_rule net i b Y).reads given → b ≡ Dt1 second xty ty x teq k → IsLagGiven teq given × IsSmall given.third
 dt1_given net i b true xty ty x teq k given valid h here sized is =
     let s = state_sized net i (Dt1 true xty ty x teq k) given (rw is at sized) in
     (record { weight = (dt1-valid net i true xty ty x teq k valid h (here ∙ ap OfBlock is)).weight; state = s.first; second = s.second }, s.third)

@@ -7,6 +7,7 @@ pub mod FilterBlocks
 pub mod BlockRules
 pub mod BlockParts
 pub mod GivenFacts
+pub mod LookUpBlocks
 pub mod ReadParts
 pub mod RuleFacts
 pub mod RuleSoundness

@@ -115,13 +115,27 @@ given_is net entries reads q (Some part) found e f =
     let r = numbered_part reads q part (sym e) in
     f ∙ sym (given_at reads (entry_of net entries) q r.within ∙ ap (entry_of net entries) r.is)
 
-pub given_sized : (net : NetData) (entries : List Bounds) (reads : List (Reading Part)) (q : ℕ) (part : Option Part) (found : Bounds) → AreAllowedReads net reads entries → part ≡ slice_get (parts_in reads) q → found ≡ entry_if net entries part → IsSized (reading_at reads q).part.role found
-given_sized net entries reads q None found allowed e f = rw (past_last reads q (no_part_at reads q (sym e)), f) small_none
-given_sized net entries reads q (Some part) found allowed e f =
+pub given_sized : (net : NetData) (entries : List Bounds) (reads : List (Reading Part)) (q : ℕ) (part : Option Part) (found : Bounds) → IsValid net → AreAllowedReads net reads entries → part ≡ slice_get (parts_in reads) q → found ≡ entry_if net entries part → IsSized (reading_at reads q).part.role found
+given_sized net entries reads q None found valid allowed e f = rw (past_last reads q (no_part_at reads q (sym e)), f) small_none
+given_sized net entries reads q (Some part) found valid allowed e f =
     let r = numbered_part reads q part (sym e) in
     let a = allowed_entry net (reading_at reads q).part (entry_of net entries (reading_at reads q).part) (allowed q r.within).1 in
     let here : found ≡ entry_of net entries (reading_at reads q).part = f ∙ ap (entry_of net entries) (sym r.is) in
-    rw here (sized_entry net (reading_at reads q).part (entry_of net entries (reading_at reads q).part) a.between a.proper)
+    rw here (sized_entry net (reading_at reads q).part (entry_of net entries (reading_at reads q).part) valid a.between a.proper)
+
+-- the range of what is read first lies between its ends
+pub record LiesBetween (net : NetData) (reads : List (Reading Part)) (found : Bounds) : Type 0 where
+  pub low : 0 < length reads → least_of_part net (reading_at reads 0).part ≤ℤ found.lo
+  pub high : 0 < length reads → found.hi ≤ℤ greatest_of_part net (reading_at reads 0).part
+
+pub given_between : (net : NetData) (entries : List Bounds) (reads : List (Reading Part)) (part : Option Part) (found : Bounds) → AreAllowedReads net reads entries → part ≡ slice_get (parts_in reads) 0 → found ≡ entry_if net entries part → LiesBetween net reads found
+given_between net entries reads None found allowed e f =
+    let none = no_part_at reads 0 (sym e) in record { low = λ some. absurd (omega (arith, none, some)); high = λ some. absurd (omega (arith, none, some)) }
+given_between net entries reads (Some part) found allowed e f =
+    let r = numbered_part reads 0 part (sym e) in
+    let a = allowed_entry net (reading_at reads 0).part (entry_of net entries (reading_at reads 0).part) (allowed 0 r.within).1 in
+    let here : found ≡ entry_of net entries (reading_at reads 0).part = f ∙ ap (entry_of net entries) (sym r.is) in
+    rw here (record { low = λ some. a.between.low; high = λ some. a.between.high })
 
 pub argument_there : (net : NetData) (i : ℕ) (b : Block) (q wire : ℕ) → IsValid net → i < length net.wires → (wire_at net.wires i).item ≡ OfBlock b → wire ≡ argument_of b q → wire < length net.wires
 argument_there net i b q wire valid h is same = rw same (omega (arith, argument_of-valid net i b valid h is q))
@@ -174,17 +188,17 @@ some_or_none X1 b = small_or_none b
 some_or_none X2 b = small_or_none b
 some_or_none W b = small_or_none b
 
-leaves_out : (net : NetData) (part : Part) (b : Bounds) (is : Bool) → is_allowed net part b ≡ is → IsProper b → allowed_of net part (if_sized part.role b) ≡ allowed_of net part (Some b)
-leaves_out net part b true e proper = ap (allowed_of net part) (sized_is part.role b (sized_entry net part b (are_between net part b e) proper))
-leaves_out net part b false e proper =
+leaves_out : (net : NetData) (part : Part) (b : Bounds) (is : Bool) → IsValid net → is_allowed net part b ≡ is → IsProper b → allowed_of net part (if_sized part.role b) ≡ allowed_of net part (Some b)
+leaves_out net part b true valid e proper = ap (allowed_of net part) (sized_is part.role b (sized_entry net part b valid (are_between net part b e) proper))
+leaves_out net part b false valid e proper =
     elim (some_or_none part.role b) [
       | inl same ↦ ap (allowed_of net part) same
       | inr none ↦ ap (allowed_of net part) none ∙ sym (ap (λ t. cond t (Some b) None) e)
     ]
 
-if_given : (net : NetData) (part : Part) (fails : Bool) (b : Bounds) → (fails ≡ false → IsProper b) → allowed_of net part (cond fails None (if_sized part.role b)) ≡ allowed_of net part (cond fails None (Some b))
-if_given net part true b proper = refl
-if_given net part false b proper = leaves_out net part b (is_allowed net part b) refl (proper refl)
+if_given : (net : NetData) (part : Part) (fails : Bool) (b : Bounds) → IsValid net → (fails ≡ false → IsProper b) → allowed_of net part (cond fails None (if_sized part.role b)) ≡ allowed_of net part (cond fails None (Some b))
+if_given net part true b valid proper = refl
+if_given net part false b valid proper = leaves_out net part b (is_allowed net part b) valid refl (proper refl)
 
 -- the same is allowed of what is found of a block's part as of what its rule gives
 pub block_found : (net : NetData) (entries : List Bounds) (part : Part) (item : Item) (b : Block) (given : Given) (found : Option Bounds) → IsValid net → part.wire.0 < length net.wires → item ≡ (wire_at net.wires part.wire.0).item → item ≡ OfBlock b → AreAllowedReads net (part_rule net part).reads entries → AreGiven given (bounds_read (part_rule net part).reads (entry_of net entries)) → ((known : List Bounds) → AreGiven given known → found ≡ cond ((block_rule net part.wire.0 b part.role).fails known) None (if_sized part.role ((block_rule net part.wire.0 b part.role).bounds known))) → allowed_of net part found ≡ allowed_of net part (given_by (part_rule net part) (entry_of net entries))
@@ -198,11 +212,11 @@ block_found net entries part item b given found valid h is case part_allowed par
     let each : (q : ℕ) (l : q < length rule.reads) → is_allowed_entry net (reading_at rule.reads q).part (bounds_at known q) ≡ true = λ q l. rw (given_at rule.reads (entry_of net entries) q l) ((allowed q l).1) in
     let proper : rule.fails known ≡ false → IsProper (rule.bounds known) = λ ruled. gives_proper rule (block_meaning net i b part.role) (FitReads net rule.reads) (blocks_keep net i b part.role valid h here).sound known (λ q l. (allowed_entry net (reading_at rule.reads q).part (bounds_at known q) (each q l)).between.low) ruled (λ q l. (allowed_entry net (reading_at rule.reads q).part (bounds_at known q) (each q l)).proper) in
     ap (allowed_of net part) (e known g)
-    ∙ if_given net part (rule.fails known) (rule.bounds known) proper
+    ∙ if_given net part (rule.fails known) (rule.bounds known) valid proper
     ∙ ap (λ t. allowed_of net part (given_by (item_rule net i t part.role) (entry_of net entries))) (sym here)
 
 -- what a block keeps is copied
-pub kept_returns : (net : NetData) (i : ℕ) (b : Block) (role : Role) (given : Given) (known : List Bounds) (keeps : Bool) (result : Option Bounds) → has_role role (Value ∷ Y ∷ []) ≡ false → AreSized (kept_rule_of i b role).reads given → AreGiven given known → keeps ≡ has_role role (block_roles b) → result ≡ cond keeps (Some given.first) None → result ≡ cond ((kept_rule_of i b role).fails known) None (if_sized role ((kept_rule_of i b role).bounds known))
+pub kept_returns : (net : NetData) (i : ℕ) (b : Block) (role : Role) (given : Given) (known : List Bounds) (keeps : Bool) (result : Option Bounds) → has_role role (Value ∷ Y ∷ []) ≡ false → AreSized net (kept_rule_of i b role).reads given → AreGiven given known → keeps ≡ has_role role (block_roles b) → result ≡ cond keeps (Some given.first) None → result ≡ cond ((kept_rule_of i b role).fails known) None (if_sized role ((kept_rule_of i b role).bounds known))
 kept_returns net i b role given known keeps result none sized g e f = by_case keeps refl
   where
     not_state : (role : Role) (other : Bounds) → has_role role (Value ∷ Y ∷ []) ≡ false → IsSized (kept_reading i b role).part.role other → IsSized role other
@@ -215,7 +229,7 @@ kept_returns net i b role given known keeps result none sized g e f = by_case ke
     by_case : (t : Bool) → keeps ≡ t → result ≡ cond ((kept_rule_of i b role).fails known) None (if_sized role ((kept_rule_of i b role).bounds known))
     by_case true is =
         let has : has_role role (block_roles b) ≡ true = sym e ∙ is in
-        let there : AreSized (kept_reading i b role ∷ []) given = rw has at sized in
+        let there : AreSized net (kept_reading i b role ∷ []) given = rw has at sized in
         f ∙ ap (λ t. cond t (Some given.first) None) is ∙ sym (rw has (ap (if_sized role) (sym g.first) ∙ sized_is role given.first (not_state role given.first none there.first)))
     by_case false is =
         let has : has_role role (block_roles b) ≡ false = sym e ∙ is in

@@ -43,7 +43,7 @@ use Rattle.cert_rules.proofs.RuleSoundness.{rules_are_sound}
 -- ---- one wire
 
 -- saturation leaves what lies between the ends of a part alone
-item_kept : (net : NetData) (rows : List (List ℤ)) (i : ℕ) (item : Item) (m : ℕ → ℕ → Cell ℤ) → IsKept (wire_at net.wires i).kind (equation_of machine net rows m i item)
+item_kept : (net : NetData) (rows : List (List ℤ)) (i : ℕ) (item : Item) (m : ℕ → ℕ → Cell ℤ) → IsKept net.axes (wire_at net.wires i).kind (equation_of machine net rows m i item)
 unfolding equation_of machine
 item_kept net rows i (Input lo hi) m = record { value = λ _ _. refl; state = λ _ _. refl }
 item_kept net rows i (Const value) m = record { value = λ _ _. refl; state = λ _ _. refl }
@@ -69,7 +69,7 @@ role_new net part X2 cells is = refl
 role_new net part W cells is = refl
 
 -- where its value before saturation lies between the part's ends
-role_kept : (net : NetData) (wire : ℕ) (role : Role) (cell : Cell ℤ) (newest : ℤ) → IsKept (wire_at net.wires wire).kind cell → least_of_part net (part_on wire role) ≤ℤ raw_by role cell newest → raw_by role cell newest ≤ℤ greatest_of_part net (part_on wire role) → new_by role cell newest ≡ raw_by role cell newest
+role_kept : (net : NetData) (wire : ℕ) (role : Role) (cell : Cell ℤ) (newest : ℤ) → IsKept net.axes (wire_at net.wires wire).kind cell → least_of_part net (part_on wire role) ≤ℤ raw_by role cell newest → raw_by role cell newest ≤ℤ greatest_of_part net (part_on wire role) → new_by role cell newest ≡ raw_by role cell newest
 role_kept net wire Value cell newest kept low high = kept.value low high
 role_kept net wire Y cell newest kept low high = kept.state low high
 role_kept net wire X1 cell newest kept low high = refl
@@ -132,7 +132,7 @@ part_holds net entries rows p m e valid accepts h keeps later meets past given =
     let within : IsWithin entry.bounds (raw_by part.role (m 0 i) (value_of net part m 0)) (new_by part.role (e 0 i) (value_of net part e 0)) = within_at entry.bounds _ _ _ _ raw new k.within in
     let low : least_of_part net part ≤ℤ raw_by part.role (m 0 i) (value_of net part m 0) = int_le_trans _ _ _ entry.least within.low in
     let high : raw_by part.role (m 0 i) (value_of net part m 0) ≤ℤ greatest_of_part net part = int_le_trans _ _ _ within.high entry.greatest in
-    let kept : IsKept (wire_at net.wires i).kind (m 0 i) = subst (IsKept (wire_at net.wires i).kind) (sym is_m) (item_kept net rows i (wire_at net.wires i).item m) in
+    let kept : IsKept net.axes (wire_at net.wires i).kind (m 0 i) = subst (IsKept net.axes (wire_at net.wires i).kind) (sym is_m) (item_kept net rows i (wire_at net.wires i).item m) in
     record {
       machine_divides = k.machine_divides;
       exact_divides = k.exact_divides;

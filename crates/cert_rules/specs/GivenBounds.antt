@@ -1,5 +1,5 @@
 -- The bounds that a rule is given in code; for private functions' clauses alone.
-use Rattle.std.specs.Prelude.{◌≡◌, ℕ, ◌<◌, List, length, get_or, map, IsTrue, Option, Some, None}
+use Rattle.std.specs.Prelude.{◌≡◌, ℕ, ◌<◌, List, length, get_or, map, ◌≤ℤ◌, IsTrue, Option, Some, None}
 use Rattle.net_model.specs.declared.wires.Role.{Role}
 use Rattle.net_model.specs.declared.wires.Role.TheVariants.{Y, Value}
 use Rattle.net_model.specs.declared.wires.Part.{Part}
@@ -10,7 +10,7 @@ use Rattle.part_rules.specs.Within.{no_bounds}
 use Rattle.part_rules.specs.PartRules.{Reading, bounds_at, read_now}
 use Rattle.efx_rules.specs.StateEntries.{IsState, if_state}
 use Rattle.cert_rules.specs.declared.lookups.Given.{Given}
-use Rattle.cert_rules.specs.Rules.{part_on}
+use Rattle.cert_rules.specs.Rules.{greatest_of_part, least_of_part, part_on}
 use Rattle.cert_rules.specs.Acceptance.{is_allowed_entry}
 use Rattle.cert_rules.specs.Certificates.{IsPart, entry_of}
 
@@ -54,8 +54,10 @@ abbrev pub if_sized : Role → Bounds → Option Bounds
 if_sized Y b = if_state b
 if_sized other b = if_small b
 
--- each of the bounds that a rule is given is one of an allowed entry
-pub record AreSized (reads : List (Reading Part)) (given : Given) : Type 0 where
+-- each of the bounds that a rule is given is one of an allowed entry, and the range of the first lies between the ends of its part
+pub record AreSized (net : NetData) (reads : List (Reading Part)) (given : Given) : Type 0 where
   pub first : IsSized (reading_at reads 0).part.role given.first
   pub second : IsSized (reading_at reads 1).part.role given.second
   pub third : IsSized (reading_at reads 2).part.role given.third
+  pub low : 0 < length reads → least_of_part net (reading_at reads 0).part ≤ℤ given.first.lo
+  pub high : 0 < length reads → given.first.hi ≤ℤ greatest_of_part net (reading_at reads 0).part

@@ -1,20 +1,23 @@
 -- The rule of each part: what it reads, and the bounds that it gives from those of what it reads.
-use Rattle.std.specs.Prelude.{ℕ, ◌-◌, ◌^◌, Bool, true, false, ◌&&◌, List, [], ◌∷◌, get_or, ℤ, pos, int_le, int_lt, Option, Some, None, if◌then◌else◌}
+use Rattle.std.specs.Prelude.{ℕ, ◌-◌, ◌^◌, Bool, true, false, not, ◌&&◌, ◌||◌, List, [], ◌∷◌, get_or, ℤ, pos, int_le, int_lt, Option, Some, None, if◌then◌else◌}
+use Rattle.fx_routines.specs.declared.interpolation.CurveOp.{CurveOp}
 use Rattle.net_model.specs.declared.wires.Kind.{Kind}
 use Rattle.net_model.specs.declared.wires.Block.{Block}
-use Rattle.net_model.specs.declared.wires.Block.TheVariants.{Arith, Scaled, Gain, Average, Pt1, Dt1}
+use Rattle.net_model.specs.declared.wires.Block.TheVariants.{Arith, Scaled, Gain, Average, Pt1, Dt1, Search, Curve, IntCurve}
 use Rattle.net_model.specs.declared.wires.Item.{Item}
 use Rattle.net_model.specs.declared.wires.Item.TheVariants.{Input, Const, Delay, Block as OfBlock}
 use Rattle.net_model.specs.declared.wires.Role.{Role}
 use Rattle.net_model.specs.declared.wires.Role.TheVariants.{Y, X1, X2, W, Value}
 use Rattle.net_model.specs.declared.wires.Part.{Part}
-use Rattle.net_model.specs.Wires.{NetData, wire_at, kind_least, kind_greatest, argument_of, block_roles, has_role, no_part}
+use Rattle.net_model.specs.Wires.{NamedAxis, NetData, axis_at, table_at, wire_at, kind_least, kind_greatest, argument_of, block_roles, has_role, no_part}
+use Rattle.net_model.specs.Families.{is_interpolated}
 use Rattle.net_meaning.specs.Blocks.{points_of, state_least, state_greatest}
 use Rattle.part_rules.specs.declared.bounds.Bounds.{Bounds}
 use Rattle.part_rules.specs.Within.{no_bounds}
 use Rattle.part_rules.specs.PartRules.{PartRule, Reading, bounds_at, fixed_rule, given_by, read_before, read_now, renamed}
 use Rattle.mfx_rules.specs.OperationRules.{arith_rule, scaled_rule}
 use Rattle.efx_rules.specs.KeptRules.{gain_rule, lag_rule, difference_rule, value_rule, average_rule}
+use Rattle.ifx_rules.specs.KeptRules.{position_rule, curve_rule, curve_over_rule}
 
 -- ---- parts
 
@@ -47,15 +50,16 @@ holder net part = held_wire part.role part.wire.0 (wire_at net.wires part.wire.0
 
 -- ---- which bounds a part may have
 
--- the least value of a part, by its role and the kind of the wire whose values it holds; a state has its own 48 bits
-abbrev pub least_by_role : Kind → Role → ℤ
-least_by_role kind Y = state_least
-least_by_role kind other = kind_least kind
+-- the least value of a part, by its role and the kind of the wire whose values it holds, in a network with these axes; a state
+-- has its own 48 bits
+abbrev pub least_by_role : List NamedAxis → Kind → Role → ℤ
+least_by_role axes kind Y = state_least
+least_by_role axes kind other = kind_least axes kind
 
 -- the greatest one
-abbrev pub greatest_by_role : Kind → Role → ℤ
-greatest_by_role kind Y = state_greatest
-greatest_by_role kind other = kind_greatest kind
+abbrev pub greatest_by_role : List NamedAxis → Kind → Role → ℤ
+greatest_by_role axes kind Y = state_greatest
+greatest_by_role axes kind other = kind_greatest axes kind
 
 -- the kind of the wire whose values a part holds
 abbrev pub kind_of_part : NetData → Part → Kind
@@ -63,11 +67,11 @@ kind_of_part net part = (wire_at net.wires (holder net part)).kind
 
 -- the least value of a part
 abbrev pub least_of_part : NetData → Part → ℤ
-least_of_part net part = least_by_role (kind_of_part net part) part.role
+least_of_part net part = least_by_role net.axes (kind_of_part net part) part.role
 
 -- the greatest value of a part
 abbrev pub greatest_of_part : NetData → Part → ℤ
-greatest_of_part net part = greatest_by_role (kind_of_part net part) part.role
+greatest_of_part net part = greatest_by_role net.axes (kind_of_part net part) part.role
 
 -- the number that the error of a part has to be below
 abbrev pub cap_of_role : Role → ℤ
@@ -97,6 +101,14 @@ no_rule = record { reads = []; fails = λ given. true; bounds = λ given. no_bou
 abbrev pub listed : List Part → ℕ → Part
 listed parts p = get_or parts p no_part
 
+-- the rule of a curve where it is interpolated; of one that is looked up there are no bounds
+abbrev pub where_interpolated : CurveOp → PartRule ℕ → PartRule ℕ
+where_interpolated op rule = record {
+  reads = rule.reads;
+  fails = λ given. not (is_interpolated op) || rule.fails given;
+  bounds = rule.bounds;
+}
+
 -- the rule of the value of a block on wire number i, one line a block
 abbrev pub value_rule_of : NetData → ℕ → Block → PartRule Part
 value_rule_of net i (Arith op v x y z shift) = renamed (argument_part (Arith op v x y z shift)) (arith_rule op shift)
@@ -106,6 +118,12 @@ value_rule_of net i (Gain xty ty x k) = renamed (listed (part_on x.0 Value ∷ [
 value_rule_of net i (Average xty ty x n) = renamed (listed (part_on x.0 Value ∷ part_on i W ∷ [])) average_rule
 value_rule_of net i (Pt1 xty ty x teq k) = renamed (listed (part_on i Y ∷ [])) value_rule
 value_rule_of net i (Dt1 second xty ty x teq k) = renamed (listed (part_on i Y ∷ [])) value_rule
+value_rule_of net i (Search ty x axis) = renamed (listed (part_on x.0 Value ∷ [])) (position_rule (axis_at net.axes axis).points)
+value_rule_of net i (Curve op dp table) =
+    renamed (listed (part_on dp.0 Value ∷ [])) (where_interpolated op (curve_rule (table_at net.tables table).values))
+value_rule_of net i (IntCurve op x axis table) =
+    let rule = curve_over_rule (axis_at net.axes axis).points (table_at net.tables table).values in
+    renamed (listed (part_on x.0 Value ∷ [])) (where_interpolated op rule)
 
 -- the rule of its state Y, one line a block that has one
 abbrev pub state_rule_of : ℕ → Block → PartRule Part

@@ -8,7 +8,7 @@ ghost use Rattle.cert_rules.specs.Acceptance.{part_at};
 
 use crate::arguments::kept_wire;
 use crate::lookups::{item_at, kind_at, part_numbered};
-use net_model::{Item, Kind, Network, Part, PartNo, Role, WireNo};
+use net_model::{Item, Kind, Network, Part, PartNo, Role, WireNo, last_position};
 use part_rules::Bounds;
 
 /// The least and the greatest value of a part.
@@ -44,7 +44,7 @@ fn ends_of_part(net: &Network, part: Part) -> Ends
 {
     match part.role {
         Role::Y => ENDS_OF_STATES,
-        _ => ends_of_kind(kind_at(net, holder(net, part))),
+        _ => ends_of_kind(net, kind_at(net, holder(net, part))),
     }
 }
 
@@ -65,9 +65,9 @@ fn holder(net: &Network, part: Part) -> WireNo
     }
 }
 
-fn ends_of_kind(kind: Kind) -> Ends
-    ensures least { result.least ≡ kind_least kind }
-    ensures greatest { result.greatest ≡ kind_greatest kind }
+fn ends_of_kind(net: &Network, kind: Kind) -> Ends
+    ensures least { result.least ≡ kind_least net.now.axes kind }
+    ensures greatest { result.greatest ≡ kind_greatest net.now.axes kind }
 {
     match kind {
         Kind::Num(ty, _) => Ends {
@@ -77,6 +77,10 @@ fn ends_of_kind(kind: Kind) -> Ends
         Kind::Truth => Ends {
             least: 0,
             greatest: 1,
+        },
+        Kind::Position(axis) => Ends {
+            least: 0,
+            greatest: i64::from(last_position(net.axes(), axis)),
         },
     }
 }

@@ -1,7 +1,7 @@
 // What the rules read of a network and of a certificate's entries.
 
 ghost use Rattle.std.specs.Prelude.{◌≡◌, ◌<◌, ◌≤◌, IfSome, length, slice_get};
-ghost use Rattle.net_model.specs.Wires.{parts_of, place_in, point_of, wire_at};
+ghost use Rattle.net_model.specs.Wires.{axis_at, parts_of, place_in, point_of, table_at, wire_at};
 ghost use Rattle.net_model.specs.Validity.{IsValid};
 ghost use Rattle.part_rules.specs.PartRules.{bounds_read};
 ghost use Rattle.cert_rules.specs.Acceptance.{part_at};
@@ -10,6 +10,8 @@ ghost use Rattle.cert_rules.specs.GivenBounds.{AreAllowedReads, AreGiven, AreSiz
 ghost use Rattle.cert_rules.specs.Rules.{part_on, part_rule};
 
 use crate::arguments::parts_read;
+use ifx_curves::Table;
+use ifx_search::Axis;
 use net_model::{Item, Kind, Network, Part, PartNo, Role, WireNo};
 use part_rules::Bounds;
 
@@ -55,8 +57,24 @@ pub(crate) fn point_at(net: &Network, wire: WireNo) -> u8
 {
     match kind_at(net, wire) {
         Kind::Num(_, point) => point,
-        Kind::Truth => 0,
+        Kind::Truth | Kind::Position(_) => 0,
     }
+}
+
+/// The axis of a number.
+pub(crate) fn axis_at(net: &Network, axis: u32) -> &Axis
+    requires { axis < length net.now.axes }
+    ensures { result.now ≡ axis_at net.now.axes axis }
+{
+    &net.axes()[axis as usize].1
+}
+
+/// The table of a number.
+pub(crate) fn table_at(net: &Network, table: u32) -> &Table
+    requires { table < length net.now.tables }
+    ensures { result.now ≡ table_at net.now.tables table }
+{
+    &net.tables()[table as usize].1
 }
 
 /// A part of a wire.
@@ -81,7 +99,7 @@ pub(crate) fn given_to(net: &Network, part: Part, all: &[Bounds]) -> Given
     requires complete { length all.now ≡ length (parts_of net.now.wires) }
     requires allowed { AreAllowedReads net.now (part_rule net.now part).reads all.now }
     ensures given { AreGiven result (bounds_read (part_rule net.now part).reads (entry_of net.now all.now)) }
-    ensures sized { AreSized (part_rule net.now part).reads result }
+    ensures sized { AreSized net.now (part_rule net.now part).reads result }
 {
     let reads = parts_read(part.wire, &item_at(net, part.wire), part.role);
     let parts = reads.as_slice();

@@ -16,8 +16,9 @@ ghost use Rattle.cert_rules.specs.Soundness.{AreAllowedFor};
 
 use crate::arguments::keeps;
 use crate::limits::allowed;
-use crate::lookups::{Given, given_to, item_at, part_numbered, point_at};
+use crate::lookups::{Given, axis_at, given_to, item_at, part_numbered, point_at, table_at};
 use efx_rules::{average_bounds, difference_bounds, gain_bounds, lag_bounds};
+use ifx_rules::{curve_bounds, curve_over_bounds, position_bounds};
 use mfx_rules::{form_bounds, operation_bounds};
 use mfx_scaled::Points;
 use net_model::{Block, Item, Network, Part, PartNo, Role, WireNo};
@@ -85,7 +86,7 @@ fn block_bounds(net: &Network, part: Part, block: &Block, given: Given) -> Optio
     requires valid { IsValid net.now }
     requires there { part.wire.0 < length net.now.wires }
     requires block { (wire_at net.now.wires part.wire.0).item ≡ Item.Block block.now }
-    requires sized { AreSized (block_rule net.now part.wire.0 block.now part.role).reads given }
+    requires sized { AreSized net.now (block_rule net.now part.wire.0 block.now part.role).reads given }
     ensures { (known : List Bounds) → AreGiven given known →
         let r = block_rule net.now part.wire.0 block.now part.role in
         result ≡ (if r.fails known then None else if_sized part.role (r.bounds known)) }
@@ -102,7 +103,7 @@ fn value_bounds(net: &Network, wire: WireNo, block: &Block, given: Given) -> Opt
     requires valid { IsValid net.now }
     requires there { wire.0 < length net.now.wires }
     requires block { (wire_at net.now.wires wire.0).item ≡ Item.Block block.now }
-    requires sized { AreSized (block_rule net.now wire.0 block.now Role.Value).reads given }
+    requires sized { AreSized net.now (block_rule net.now wire.0 block.now Role.Value).reads given }
     ensures { (known : List Bounds) → AreGiven given known →
         let r = block_rule net.now wire.0 block.now Role.Value in
         result ≡ (if r.fails known then None else if_small (r.bounds known)) }
@@ -126,6 +127,11 @@ fn value_bounds(net: &Network, wire: WireNo, block: &Block, given: Given) -> Opt
         Block::Average { .. } => average_bounds(first, second),
         Block::Pt1 { .. } => efx_rules::value_bounds(first),
         Block::Dt1 { .. } => efx_rules::value_bounds(first),
+        Block::Search { axis, .. } => position_bounds(axis_at(net, axis), first),
+        Block::Curve { table, .. } => curve_bounds(table_at(net, table), first),
+        Block::IntCurve { axis, table, .. } => {
+            curve_over_bounds(axis_at(net, axis), table_at(net, table), first)
+        }
     }
 }
 
@@ -134,7 +140,7 @@ fn state_bounds(net: &Network, wire: WireNo, block: &Block, given: Given) -> Opt
     requires valid { IsValid net.now }
     requires there { wire.0 < length net.now.wires }
     requires block { (wire_at net.now.wires wire.0).item ≡ Item.Block block.now }
-    requires sized { AreSized (block_rule net.now wire.0 block.now Role.Y).reads given }
+    requires sized { AreSized net.now (block_rule net.now wire.0 block.now Role.Y).reads given }
     ensures { (known : List Bounds) → AreGiven given known →
         let r = block_rule net.now wire.0 block.now Role.Y in
         result ≡ (if r.fails known then None else if_state (r.bounds known)) }

@@ -19,7 +19,7 @@ use Rattle.net_model.specs.declared.wires.Kind.{Kind}
 use Rattle.net_model.specs.declared.wires.Kind.TheVariants.{Num}
 use Rattle.net_model.specs.declared.wires.Block.TheVariants.{Arith}
 use Rattle.net_model.specs.declared.wires.Item.TheVariants.{Block as OfBlock}
-use Rattle.net_model.specs.Wires.{NetData, wire_at, argument_of, kind_least, kind_greatest}
+use Rattle.net_model.specs.Wires.{NamedAxis, NetData, wire_at, argument_of, kind_least, kind_greatest}
 use Rattle.net_model.specs.Validity.{IsValid}
 use Rattle.net_model.proofs.FamilyFacts.{shift_from_test}
 use Rattle.net_model.proofs.ValidityFacts.{arith-valid, number_kind}
@@ -62,18 +62,18 @@ quotient_reads : (op : ArithOp) (sh : ℕ) (m : ℕ → ℤ) → quotient_of op 
 quotient_reads Add sh m = refl
 quotient_reads other sh m = refl
 
--- the value of an operation between the ends of a kind, from its arguments by number
-abbrev arith_between : ArithOp → Kind → (ℕ → ℤ) → ℕ → ℤ
-arith_between op kind m sh =
+-- the value of an operation between the ends of a kind, in a network with these axes, from its arguments by number
+abbrev arith_between : List NamedAxis → ArithOp → Kind → (ℕ → ℤ) → ℕ → ℤ
+arith_between axes op kind m sh =
     let given : ℕ → Fraction = λ p. whole (m p) in
-    value_between Zero (kind_least kind) (kind_greatest kind) (quotient_of op sh given) (arith_formula op sh given)
+    value_between Zero (kind_least axes kind) (kind_greatest axes kind) (quotient_of op sh given) (arith_formula op sh given)
 
 -- a routine's value on a wire of its output's type
-arith_value-is : (op : ArithOp) (t : Ty) (kind : Kind) (point : ℕ) (m : ℕ → ℤ) (sh : ℕ) → kind ≡ Num t point → arith_value op t (m 0) (m 1) (m 2) sh ≡ arith_between op kind m sh
+arith_value-is : (axes : List NamedAxis) (op : ArithOp) (t : Ty) (kind : Kind) (point : ℕ) (m : ℕ → ℤ) (sh : ℕ) → kind ≡ Num t point → arith_value op t (m 0) (m 1) (m 2) sh ≡ arith_between axes op kind m sh
 unfolding arith_value value_in
-arith_value-is op t kind point m sh e =
+arith_value-is axes op t kind point m sh e =
     ap₂ (value_between Zero (least_of t) (greatest_of t)) (quotient_reads op sh m) (formula_reads op sh m)
-    ∙ ap (λ k. arith_between op k m sh) (sym e)
+    ∙ ap (λ k. arith_between axes op k m sh) (sym e)
 
 -- of other names of the same arguments
 arith_value-same : (op : ArithOp) (t : Ty) (x y z x' y' z' : ℤ) (sh : ℕ) → x ≡ x' → y ≡ y' → z ≡ z' → arith_value op t x y z sh ≡ arith_value op t x' y' z' sh
@@ -97,8 +97,8 @@ arith_faithful net i op v x y z shift valid lt e =
         arguments_held op v _ _ _ (given_held net values i x (slice_get types 0) x held g.first) (given_held net values i x (slice_get types 1) y held g.second) (given_held net values i x (slice_get types 2) z held g.third),
         shift_from_test op shift g.shift,
       );
-      held = λ state inputs values typed may. held_in_kind v.o _ kind.0 _ kind.1 (saturated_held v.o _);
+      held = λ state inputs values typed may. held_in_kind net.axes v.o _ kind.0 _ kind.1 (saturated_held v.o _);
       right = λ state inputs rows past cells kept.
           arith_value-same op v.o _ _ _ _ _ _ shift (value_at-values_in cells x.0) (value_at-values_in cells y.0) (value_at-values_in cells z.0)
-          ∙ arith_value-is op v.o (wire_at net.wires i).kind kind.0 (λ p. (cell_at machine (cells ∷ past) 0 (argument_of (Arith op v x y z shift) p)).value) shift kind.1;
+          ∙ arith_value-is net.axes op v.o (wire_at net.wires i).kind kind.0 (λ p. (cell_at machine (cells ∷ past) 0 (argument_of (Arith op v x y z shift) p)).value) shift kind.1;
     }

@@ -9,7 +9,7 @@ use Rattle.net_model.specs.declared.wires.WireNo.{WireNo}
 use Rattle.net_model.specs.declared.wires.Kind.{Kind}
 use Rattle.net_model.specs.declared.wires.Kind.TheVariants.{Num}
 use Rattle.net_model.specs.declared.wires.Item.{Item}
-use Rattle.net_model.specs.Wires.{NetData, wire_at, inputs_of}
+use Rattle.net_model.specs.Wires.{NamedAxis, NetData, wire_at, inputs_of}
 use Rattle.net_model.proofs.ValidityFacts.{IsInKind, IsGoodArgument, number_kind}
 use Rattle.net_meaning.specs.Cells.{Cell, plain, cell_at}
 use Rattle.net_meaning.specs.Blocks.{machine}
@@ -25,21 +25,21 @@ use Rattle.net_eval.specs.Typing.{AreTyped}
 
 -- each of the first n values lies in the kind of its wire
 abbrev pub AreHeld : NetData → List ℤ → ℕ → Type 0
-AreHeld net values n = (k : ℕ) → k < n → IsInKind (wire_at net.wires k).kind (value_at values k)
+AreHeld net values n = (k : ℕ) → k < n → IsInKind net.axes (wire_at net.wires k).kind (value_at values k)
 
 -- a value of a type lies in the kind of a wire of the type
-pub held_in_kind : (ty : Ty) (kind : Kind) (point : ℕ) (v : ℤ) → kind ≡ Num ty point → Holds ty v → IsInKind kind v
-held_in_kind ty kind point v e h = subst (λ k. IsInKind k v) (sym e) (record { low = h.0; high = h.1 })
+pub held_in_kind : (axes : List NamedAxis) (ty : Ty) (kind : Kind) (point : ℕ) (v : ℤ) → kind ≡ Num ty point → Holds ty v → IsInKind axes kind v
+held_in_kind axes ty kind point v e h = subst (λ k. IsInKind axes k v) (sym e) (record { low = h.0; high = h.1 })
 
-pub kind_held : (ty : Ty) (kind : Kind) (point : ℕ) (v : ℤ) → kind ≡ Num ty point → IsInKind kind v → Holds ty v
-kind_held ty kind point v e h =
-    let k : IsInKind (Num ty point) v = subst (λ k. IsInKind k v) e h in
+pub kind_held : (axes : List NamedAxis) (ty : Ty) (kind : Kind) (point : ℕ) (v : ℤ) → kind ≡ Num ty point → IsInKind axes kind v → Holds ty v
+kind_held axes ty kind point v e h =
+    let k : IsInKind axes (Num ty point) v = subst (λ k. IsInKind axes k v) e h in
     (k.low, k.high)
 
 -- an argument's value is one of its type
 pub given_held : (net : NetData) (values : List ℤ) (i : ℕ) (first : WireNo) (ty : Option Ty) (a : WireNo) → AreHeld net values i → IsGoodArgument net i first ty a → IfSome ty (λ t. Holds t (value_at values a.0))
 given_held net values i first (Some ty) a held g =
-    let k = number_kind ty (wire_at net.wires a.0).kind g.number in kind_held ty _ k.0 _ k.1 (held a.0 g.earlier)
+    let k = number_kind ty (wire_at net.wires a.0).kind g.number in kind_held net.axes ty _ k.0 _ k.1 (held a.0 g.earlier)
 given_held net values i first None a held g = tt
 
 -- ---- a row's cells
@@ -71,14 +71,14 @@ value_in_row net rows past i k below le =
 pub record IsFaithful (net : NetData) (i : ℕ) (item : Item) : Type 0 where
   -- it is ready, where the earlier values lie in their kinds
   pub ready : (state : State) (inputs values : List ℤ) → length inputs ≡ length (inputs_of net.wires) → length values ≡ i →
-      AreHeld net values i → MayKeep net i item state → IsReady (item_step net i item) state inputs values
+      AreHeld net values i → MayKeep net i item state → IsReady net (item_step net i item) state inputs values
   -- its value lies in the kind of the wire
   pub held : (state : State) (inputs values : List ℤ) → AreTyped net inputs → MayKeep net i item state →
-      IsInKind (wire_at net.wires i).kind (step_value (item_step net i item) state inputs values)
+      IsInKind net.axes (wire_at net.wires i).kind (step_value net (item_step net i item) state inputs values)
   -- it is that of the machine, where the earlier values are and the wire keeps what is to be kept
   pub right : (state : State) (inputs : List ℤ) (rows : List (List ℤ)) (past : List (List (Cell ℤ))) (cells : List (Cell ℤ)) →
       state ≡ kept_by net rows past i item →
-      step_value (item_step net i item) state inputs (values_in cells)
+      step_value net (item_step net i item) state inputs (values_in cells)
       ≡ (equation_of machine net (inputs ∷ rows) (cell_at machine (cells ∷ past)) i item).value
 
 -- of what the wire keeps

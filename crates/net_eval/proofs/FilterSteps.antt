@@ -18,7 +18,7 @@ use Rattle.net_model.specs.declared.wires.Kind.TheVariants.{Num}
 use Rattle.net_model.specs.declared.wires.Block.{Block}
 use Rattle.net_model.specs.declared.wires.Block.TheVariants.{Gain, Average, Pt1, Dt1}
 use Rattle.net_model.specs.declared.wires.Item.TheVariants.{Block as OfBlock}
-use Rattle.net_model.specs.Wires.{NetData, wire_at, kind_least, kind_greatest}
+use Rattle.net_model.specs.Wires.{NamedAxis, NetData, wire_at, kind_least, kind_greatest}
 use Rattle.net_model.specs.Validity.{IsValid}
 use Rattle.net_model.proofs.ValidityFacts.{IsInKind, IsGoodFilter, number_kind, gain-valid, average-valid, pt1-valid, dt1-valid}
 use Rattle.net_meaning.specs.Cells.{Cell, cell_at}
@@ -100,26 +100,26 @@ gives_output (Averaging average) input = saturated_held average.o _
 filter_ready : (net : NetData) (i : ℕ) (b : Block) (xty ty : Ty) (x : WireNo) (state : State) (values : List ℤ) → IsGoodFilter net i (wire_at net.wires i).kind xty ty x → input_type (block_start b) ≡ xty → length values ≡ i → AreHeld net values i → restarted state ≡ block_start b → (x.0 < length values) × TakesInput state (value_at values x.0)
 filter_ready net i b xty ty x state values filter typed len held may =
     let kind = number_kind xty (wire_at net.wires x.0).kind filter.input in
-    let holds : Holds xty (value_at values x.0) = kind_held xty _ kind.0 _ kind.1 (held x.0 filter.earlier) in
+    let holds : Holds xty (value_at values x.0) = kind_held net.axes xty _ kind.0 _ kind.1 (held x.0 filter.earlier) in
     let same : input_type state ≡ xty = sym (same_input state) ∙ ap input_type may ∙ typed in
     (omega (arith, len, filter.earlier), takes_input state _ (subst (λ t. Holds t (value_at values x.0)) (sym same) holds))
 
-filter_held : (net : NetData) (i : ℕ) (b : Block) (xty ty : Ty) (x : WireNo) (state : State) (input : ℤ) → IsGoodFilter net i (wire_at net.wires i).kind xty ty x → output_type (block_start b) ≡ ty → restarted state ≡ block_start b → IsInKind (wire_at net.wires i).kind (filter_value state input)
+filter_held : (net : NetData) (i : ℕ) (b : Block) (xty ty : Ty) (x : WireNo) (state : State) (input : ℤ) → IsGoodFilter net i (wire_at net.wires i).kind xty ty x → output_type (block_start b) ≡ ty → restarted state ≡ block_start b → IsInKind net.axes (wire_at net.wires i).kind (filter_value state input)
 filter_held net i b xty ty x state input filter typed may =
     let kind = number_kind ty (wire_at net.wires i).kind filter.output in
     let same : output_type state ≡ ty = sym (same_output state) ∙ ap output_type may ∙ typed in
-    held_in_kind ty _ kind.0 _ kind.1 (subst (λ t. Holds t (filter_value state input)) same (gives_output state input))
+    held_in_kind net.axes ty _ kind.0 _ kind.1 (subst (λ t. Holds t (filter_value state input)) same (gives_output state input))
 
 -- ---- the values
 
 -- what saturates to a type saturates to the kind of a wire of the type
-saturated_in_kind : (ty : Ty) (kind : Kind) (point : ℕ) (v : ℤ) → kind ≡ Num ty point → saturated ty v ≡ saturated_to (kind_least kind) (kind_greatest kind) v
-saturated_in_kind ty kind point v e = ap (λ k. saturated_to (kind_least k) (kind_greatest k) v) (sym e)
+saturated_in_kind : (axes : List NamedAxis) (ty : Ty) (kind : Kind) (point : ℕ) (v : ℤ) → kind ≡ Num ty point → saturated ty v ≡ saturated_to (kind_least axes kind) (kind_greatest axes kind) v
+saturated_in_kind axes ty kind point v e = ap (λ k. saturated_to (kind_least axes k) (kind_greatest axes k) v) (sym e)
 
 -- the same on the wire of a filter
-saturated_on : (net : NetData) (i : ℕ) (xty ty : Ty) (x : WireNo) (v : ℤ) → IsGoodFilter net i (wire_at net.wires i).kind xty ty x → saturated ty v ≡ saturated_to (kind_least (wire_at net.wires i).kind) (kind_greatest (wire_at net.wires i).kind) v
+saturated_on : (net : NetData) (i : ℕ) (xty ty : Ty) (x : WireNo) (v : ℤ) → IsGoodFilter net i (wire_at net.wires i).kind xty ty x → saturated ty v ≡ saturated_to (kind_least net.axes (wire_at net.wires i).kind) (kind_greatest net.axes (wire_at net.wires i).kind) v
 saturated_on net i xty ty x v filter =
-    let kind = number_kind ty (wire_at net.wires i).kind filter.output in saturated_in_kind ty _ kind.0 v kind.1
+    let kind = number_kind ty (wire_at net.wires i).kind filter.output in saturated_in_kind net.axes ty _ kind.0 v kind.1
 
 -- ---- proportional blocks
 

@@ -4,6 +4,8 @@ pub mod FaithfulSteps
 pub mod PlainSteps
 pub mod ArithSteps
 pub mod ScaledSteps
+pub mod LookUpValues
+pub mod LookUpSteps
 pub mod FilterSteps
 pub mod ItemSteps
 pub mod RowFacts

@@ -53,7 +53,7 @@ pub input_faithful : (net : NetData) (i : ℕ) (lo hi : ℤ) → i < length net.
 unfolding equation_of machine
 input_faithful net i lo hi lt e = record {
   ready = λ state inputs values one_each len held may. omega (arith, one_each, place_below net.wires i lt (ap is_input e));
-  held = λ state inputs values typed may. in_kind _ _ (typed i lt (ap is_input e));
+  held = λ state inputs values typed may. in_kind _ _ _ (typed i lt (ap is_input e));
   right = λ state inputs rows past cells kept. refl;
 }
 
@@ -81,19 +81,19 @@ delay_faithful net i init source = record {
 }
 
 -- its source's value lies in its own kind
-source_held : (net : NetData) (i : ℕ) (init : ℤ) (source : WireNo) (all : List ℤ) → IsValid net → i < length net.wires → (wire_at net.wires i).item ≡ Delay init source → AreHeld net all (length net.wires) → IsInKind (wire_at net.wires i).kind (value_at all source.0)
+source_held : (net : NetData) (i : ℕ) (init : ℤ) (source : WireNo) (all : List ℤ) → IsValid net → i < length net.wires → (wire_at net.wires i).item ≡ Delay init source → AreHeld net all (length net.wires) → IsInKind net.axes (wire_at net.wires i).kind (value_at all source.0)
 source_held net i init source all valid lt e held =
     let g = delay-valid net i init source valid lt e in
-    subst (λ kind. IsInKind kind (value_at all source.0)) g.same (held source.0 g.there)
+    subst (λ kind. IsInKind net.axes kind (value_at all source.0)) g.same (held source.0 g.there)
 
 pub delay_kept : (net : NetData) (i : ℕ) (init : ℤ) (source : WireNo) → IsValid net → i < length net.wires → (wire_at net.wires i).item ≡ Delay init source → IsKeptRight net i (Delay init source)
 delay_kept net i init source valid lt e = record {
   start = refl;
   next = λ state inputs rows past kept. ap₂ holding kept (value_at-values_in (cells_of net (inputs ∷ rows) past) source.0);
-  may_start = let first = in_kind _ _ (delay-valid net i init source valid lt e).holds in (refl, first.low, first.high);
+  may_start = let first = in_kind _ _ _ (delay-valid net i init source valid lt e).holds in (refl, first.low, first.high);
   may_next = λ state values all held may.
       let h = source_held net i init source all valid lt e held in
       let same = ap (λ s. holding s (value_at all source.0)) may.0 in
-      subst (MayHold (wire_at net.wires i).kind) (sym same) (refl, h.low, h.high);
+      subst (MayHold net.axes (wire_at net.wires i).kind) (sym same) (refl, h.low, h.high);
   back = λ state may. refl;
 }

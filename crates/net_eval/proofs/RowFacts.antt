@@ -45,13 +45,13 @@ state_at-starts_of : (net : NetData) (n k : ℕ) → k < n → state_at (starts_
 unfolding starts_of
 state_at-starts_of net n k lt = list_at (start_of net) n k Nothing lt
 
-length-states_of : (steps : List Step) (states : List State) (inputs : List ℤ) (n : ℕ) → length (states_of steps states inputs n) ≡ n
+length-states_of : (net : NetData) (steps : List Step) (states : List State) (inputs : List ℤ) (n : ℕ) → length (states_of net steps states inputs n) ≡ n
 unfolding states_of
-length-states_of steps states inputs n = length-map-range_with_len (kept_behind steps states inputs) 0 n
+length-states_of net steps states inputs n = length-map-range_with_len (kept_behind net steps states inputs) 0 n
 
-state_at-states_of : (steps : List Step) (states : List State) (inputs : List ℤ) (n k : ℕ) → k < n → state_at (states_of steps states inputs n) k ≡ kept_behind steps states inputs k
+state_at-states_of : (net : NetData) (steps : List Step) (states : List State) (inputs : List ℤ) (n k : ℕ) → k < n → state_at (states_of net steps states inputs n) k ≡ kept_behind net steps states inputs k
 unfolding states_of
-state_at-states_of steps states inputs n k lt = list_at (kept_behind steps states inputs) n k Nothing lt
+state_at-states_of net steps states inputs n k lt = list_at (kept_behind net steps states inputs) n k Nothing lt
 
 state_at-kept_of : (net : NetData) (rows : List (List ℤ)) (cells : List (List (Cell ℤ))) (n k : ℕ) → k < n → state_at (kept_of net rows cells n) k ≡ kept_on net rows cells k
 unfolding kept_of
@@ -61,10 +61,10 @@ length-kept_of : (net : NetData) (rows : List (List ℤ)) (cells : List (List (C
 unfolding kept_of
 length-kept_of net rows cells n = length-map-range_with_len (kept_on net rows cells) 0 n
 
-length-values_of : (steps : List Step) (states : List State) (inputs : List ℤ) (n : ℕ) → length (values_of steps states inputs n) ≡ n
+length-values_of : (net : NetData) (steps : List Step) (states : List State) (inputs : List ℤ) (n : ℕ) → length (values_of net steps states inputs n) ≡ n
 unfolding values_of
-length-values_of steps states inputs zero = refl
-length-values_of steps states inputs (suc n) = length_push _ _ ∙ omega (arith, length-values_of steps states inputs n)
+length-values_of net steps states inputs zero = refl
+length-values_of net steps states inputs (suc n) = length_push _ _ ∙ omega (arith, length-values_of net steps states inputs n)
 
 -- what holds of each element and of one more
 push_each : {X : Type 0} (xs : List X) (x d : X) (P : ℕ → X → Type 0) (n : ℕ) → length xs ≡ n → ((k : ℕ) → k < n → P k (get_or xs k d)) → P n x → (k : ℕ) → k < suc n → P k (get_or (xs ++ x ∷ []) k d)
@@ -189,11 +189,11 @@ all_steps net = steps_of net (length net.wires)
 
 -- the values of the first n of them
 abbrev values_to : NetData → List State → List ℤ → ℕ → List ℤ
-values_to net states inputs n = values_of (all_steps net) states inputs n
+values_to net states inputs n = values_of net (all_steps net) states inputs n
 
 -- what all wires keep behind them
 abbrev states_behind : NetData → List State → List ℤ → List State
-states_behind net states inputs = states_of (all_steps net) states inputs (length net.wires)
+states_behind net states inputs = states_of net (all_steps net) states inputs (length net.wires)
 
 -- and behind the row
 abbrev handed_behind : NetData → List State → List ℤ → List State
@@ -206,8 +206,8 @@ step_of_all net i lt = step_at-steps_of net (length net.wires) i lt
 -- one of the states behind the row
 state_of_all : (net : NetData) (states : List State) (inputs : List ℤ) (i : ℕ) → i < length net.wires → state_at (handed_behind net states inputs) i ≡ handed (wire_at net.wires i).item (values_to net states inputs (length net.wires)) (state_behind (step_of net i) (state_at states i) (values_to net states inputs i))
 state_of_all net states inputs i lt =
-    handed_earlier net all (states_behind net states inputs) (length net.wires) i lt (omega (arith, length-states_of (all_steps net) states inputs (length net.wires)))
-    ∙ ap (handed (wire_at net.wires i).item all) (state_at-states_of (all_steps net) states inputs (length net.wires) i lt ∙ ap (λ s. state_behind s (state_at states i) (values_to net states inputs i)) (step_of_all net i lt))
+    handed_earlier net all (states_behind net states inputs) (length net.wires) i lt (omega (arith, length-states_of net (all_steps net) states inputs (length net.wires)))
+    ∙ ap (handed (wire_at net.wires i).item all) (state_at-states_of net (all_steps net) states inputs (length net.wires) i lt ∙ ap (λ s. state_behind s (state_at states i) (values_to net states inputs i)) (step_of_all net i lt))
   where
     all : List ℤ
     all = values_to net states inputs (length net.wires)
@@ -215,36 +215,36 @@ state_of_all net states inputs i lt =
 length-handed_behind : (net : NetData) (states : List State) (inputs : List ℤ) → length (handed_behind net states inputs) ≡ length net.wires
 length-handed_behind net states inputs =
     length-handed_over (handovers_of net (length net.wires)) _ (states_behind net states inputs)
-    ∙ length-states_of (all_steps net) states inputs (length net.wires)
+    ∙ length-states_of net (all_steps net) states inputs (length net.wires)
 
 -- the values lie in their kinds
 values_held : (net : NetData) (states : List State) (inputs : List ℤ) (n : ℕ) → IsGiven net states inputs → n ≤ length net.wires → AreHeld net (values_to net states inputs n) n
 unfolding values_of
 values_held net states inputs zero given le k lt = absurd (omega arith)
 values_held net states inputs (suc n) given le k lt =
-    push_each values _ (pos 0) IsHeld n (length-values_of (all_steps net) states inputs n) (values_held net states inputs n given (omega arith)) here k lt
+    push_each values _ (pos 0) IsHeld n (length-values_of net (all_steps net) states inputs n) (values_held net states inputs n given (omega arith)) here k lt
   where
     values : List ℤ
     values = values_to net states inputs n
 
     IsHeld : ℕ → ℤ → Type 0
-    IsHeld m v = IsInKind (wire_at net.wires m).kind v
+    IsHeld m v = IsInKind net.axes (wire_at net.wires m).kind v
 
     there : n < length net.wires
     there = omega arith
 
-    here : IsHeld n (step_value (step_at (all_steps net) n) (state_at states n) inputs values)
+    here : IsHeld n (step_value net (step_at (all_steps net) n) (state_at states n) inputs values)
     here =
         let held = (faithful net n given.valid there).held (state_at states n) inputs values given.typed (given.kept.each n there) in
-        subst (λ s. IsHeld n (step_value s (state_at states n) inputs values)) (sym (step_of_all net n there)) held
+        subst (λ s. IsHeld n (step_value net s (state_at states n) inputs values)) (sym (step_of_all net n there)) held
 
 -- each step is ready
-all_ready : (net : NetData) (states : List State) (inputs : List ℤ) → IsGiven net states inputs → length inputs ≡ length (inputs_of net.wires) → AreReady (all_steps net) states inputs
+all_ready : (net : NetData) (states : List State) (inputs : List ℤ) → IsGiven net states inputs → length inputs ≡ length (inputs_of net.wires) → AreReady net (all_steps net) states inputs
 all_ready net states inputs given one_each i below =
     let lt : i < length net.wires = omega (arith, below, length-steps_of net (length net.wires)) in
     let held = values_held net states inputs i given (omega (arith, lt)) in
-    let ready = (faithful net i given.valid lt).ready (state_at states i) inputs _ one_each (length-values_of _ states inputs i) held (given.kept.each i lt) in
-    subst (λ s. IsReady s (state_at states i) inputs (values_to net states inputs i)) (sym (step_of_all net i lt)) ready
+    let ready = (faithful net i given.valid lt).ready (state_at states i) inputs _ one_each (length-values_of net _ states inputs i) held (given.kept.each i lt) in
+    subst (λ s. IsReady net s (state_at states i) inputs (values_to net states inputs i)) (sym (step_of_all net i lt)) ready
 
 -- what is kept behind the row may be kept
 all_kept : (net : NetData) (states : List State) (inputs : List ℤ) → IsGiven net states inputs → AreKept net (handed_behind net states inputs)
@@ -268,10 +268,10 @@ state_is net states rows past i before lt =
     ap (λ l. state_at l i) before.kept ∙ state_at-kept_of net rows past (length net.wires) i lt
 
 -- one more value is that of one more cell
-value_next : (net : NetData) (states : List State) (inputs : List ℤ) (rows : List (List ℤ)) (past : List (List (Cell ℤ))) (n : ℕ) → IsKeptBefore net states rows past → n < length net.wires → values_to net states inputs n ≡ values_in (row_of machine net (inputs ∷ rows) past n) → step_value (step_at (all_steps net) n) (state_at states n) inputs (values_to net states inputs n) ≡ (equation machine net (inputs ∷ rows) (cell_at machine (row_of machine net (inputs ∷ rows) past n ∷ past)) n).value
+value_next : (net : NetData) (states : List State) (inputs : List ℤ) (rows : List (List ℤ)) (past : List (List (Cell ℤ))) (n : ℕ) → IsKeptBefore net states rows past → n < length net.wires → values_to net states inputs n ≡ values_in (row_of machine net (inputs ∷ rows) past n) → step_value net (step_at (all_steps net) n) (state_at states n) inputs (values_to net states inputs n) ≡ (equation machine net (inputs ∷ rows) (cell_at machine (row_of machine net (inputs ∷ rows) past n ∷ past)) n).value
 value_next net states inputs rows past n before lt earlier =
     let kept = state_is net states rows past n before lt in
-    ap₂ (λ s l. step_value s (state_at states n) inputs l) (step_of_all net n lt) earlier
+    ap₂ (λ s l. step_value net s (state_at states n) inputs l) (step_of_all net n lt) earlier
     ∙ (faithful net n before.valid lt).right (state_at states n) inputs rows past (row_of machine net (inputs ∷ rows) past n) kept
 
 values_row : (net : NetData) (states : List State) (inputs : List ℤ) (rows : List (List ℤ)) (past : List (List (Cell ℤ))) (n : ℕ) → IsKeptBefore net states rows past → n ≤ length net.wires → values_to net states inputs n ≡ values_in (row_of machine net (inputs ∷ rows) past n)
@@ -334,60 +334,60 @@ outputs_row net states inputs rows before = ap (λ f. map f net.outs) same
 pub length-steps : (net : NetData) (steps : List Step) (handovers : List Handover) (states : List State) → ArePlanned net steps handovers states → length steps ≡ length net.wires
 length-steps net steps handovers states p = ap length p.resolved ∙ length-steps_of net (length net.wires)
 
-pub steps_ready : (net : NetData) (steps : List Step) (handovers : List Handover) (states : List State) (inputs : List ℤ) → ArePlanned net steps handovers states → length inputs ≡ length (inputs_of net.wires) → AreTyped net inputs → AreReady steps states inputs
+pub steps_ready : (net : NetData) (steps : List Step) (handovers : List Handover) (states : List State) (inputs : List ℤ) → ArePlanned net steps handovers states → length inputs ≡ length (inputs_of net.wires) → AreTyped net inputs → AreReady net steps states inputs
 steps_ready net steps handovers states inputs p one_each typed =
     let given : IsGiven net states inputs = record { valid = p.valid; kept = p.kept; typed = typed } in
-    subst (λ l. AreReady l states inputs) (sym p.resolved) (all_ready net states inputs given one_each)
+    subst (λ l. AreReady net l states inputs) (sym p.resolved) (all_ready net states inputs given one_each)
 
-pub outs_there : (net : NetData) (steps : List Step) (handovers : List Handover) (states : List State) (inputs values : List ℤ) (outs : List WireNo) → ArePlanned net steps handovers states → outs ≡ net.outs → values ≡ values_of steps states inputs (length steps) → AreBelow outs (length values)
+pub outs_there : (net : NetData) (steps : List Step) (handovers : List Handover) (states : List State) (inputs values : List ℤ) (outs : List WireNo) → ArePlanned net steps handovers states → outs ≡ net.outs → values ≡ values_of net steps states inputs (length steps) → AreBelow outs (length values)
 outs_there net steps handovers states inputs values outs p named filled =
     subst (λ os. AreBelow os (length values)) (sym named) (subst (AreBelow net.outs) (sym long) (outs_below net p.valid))
   where
     long : length values ≡ length net.wires
-    long = ap length filled ∙ length-values_of steps states inputs (length steps) ∙ length-steps net steps handovers states p
+    long = ap length filled ∙ length-values_of net steps states inputs (length steps) ∙ length-steps net steps handovers states p
 
 pub handovers_there : (net : NetData) (steps : List Step) (handovers : List Handover) (states now : List State) → ArePlanned net steps handovers states → length now ≡ length net.wires → AreAmong handovers (length now)
 handovers_there net steps handovers states now p e =
     subst (AreAmong handovers) (sym e) (subst (λ hs. AreAmong hs (length net.wires)) (sym p.handed) (all_among net (length net.wires) p.valid (omega arith)))
 
 -- the steps leave a value and a state for each wire
-pub length-stepped : (net : NetData) (steps : List Step) (handovers : List Handover) (states stepped : List State) (inputs : List ℤ) → ArePlanned net steps handovers states → stepped ≡ states_of steps states inputs (length steps) → length stepped ≡ length net.wires
+pub length-stepped : (net : NetData) (steps : List Step) (handovers : List Handover) (states stepped : List State) (inputs : List ℤ) → ArePlanned net steps handovers states → stepped ≡ states_of net steps states inputs (length steps) → length stepped ≡ length net.wires
 length-stepped net steps handovers states stepped inputs p e =
-    ap length e ∙ length-states_of steps states inputs (length steps) ∙ length-steps net steps handovers states p
+    ap length e ∙ length-states_of net steps states inputs (length steps) ∙ length-steps net steps handovers states p
 
-pub length-filled : (steps : List Step) (states stepped : List State) (inputs values : List ℤ) → values ≡ values_of steps states inputs (length steps) → stepped ≡ states_of steps states inputs (length steps) → length values ≡ length stepped
-length-filled steps states stepped inputs values filled stood =
+pub length-filled : (net : NetData) (steps : List Step) (states stepped : List State) (inputs values : List ℤ) → values ≡ values_of net steps states inputs (length steps) → stepped ≡ states_of net steps states inputs (length steps) → length values ≡ length stepped
+length-filled net steps states stepped inputs values filled stood =
     ap length filled
-    ∙ length-values_of steps states inputs (length steps)
-    ∙ sym (ap length stood ∙ length-states_of steps states inputs (length steps))
+    ∙ length-values_of net steps states inputs (length steps)
+    ∙ sym (ap length stood ∙ length-states_of net steps states inputs (length steps))
 
 -- what is kept behind the row
-abbrev pub row_behind : List Step → List Handover → List State → List ℤ → List State
-row_behind steps handovers states inputs =
-    handed_over handovers (values_of steps states inputs (length steps)) (states_of steps states inputs (length steps))
+abbrev pub row_behind : NetData → List Step → List Handover → List State → List ℤ → List State
+row_behind net steps handovers states inputs =
+    handed_over handovers (values_of net steps states inputs (length steps)) (states_of net steps states inputs (length steps))
 
-row_behind-is : (net : NetData) (steps : List Step) (handovers : List Handover) (states : List State) (inputs : List ℤ) → ArePlanned net steps handovers states → row_behind steps handovers states inputs ≡ handed_behind net states inputs
+row_behind-is : (net : NetData) (steps : List Step) (handovers : List Handover) (states : List State) (inputs : List ℤ) → ArePlanned net steps handovers states → row_behind net steps handovers states inputs ≡ handed_behind net states inputs
 row_behind-is net steps handovers states inputs p =
-    ap₂ (λ l n. handed_over handovers (values_of l states inputs n) (states_of l states inputs n)) p.resolved (length-steps net steps handovers states p)
+    ap₂ (λ l n. handed_over handovers (values_of net l states inputs n) (states_of net l states inputs n)) p.resolved (length-steps net steps handovers states p)
     ∙ ap (λ hs. handed_over hs (values_to net states inputs (length net.wires)) (states_behind net states inputs)) p.handed
 
 -- of the values and the states that the steps leave
-pub row_left : (steps : List Step) (handovers : List Handover) (states stepped behind : List State) (inputs values : List ℤ) → values ≡ values_of steps states inputs (length steps) → stepped ≡ states_of steps states inputs (length steps) → behind ≡ handed_over handovers values stepped → behind ≡ row_behind steps handovers states inputs
-row_left steps handovers states stepped behind inputs values filled stood e = e ∙ ap₂ (handed_over handovers) filled stood
+pub row_left : (net : NetData) (steps : List Step) (handovers : List Handover) (states stepped behind : List State) (inputs values : List ℤ) → values ≡ values_of net steps states inputs (length steps) → stepped ≡ states_of net steps states inputs (length steps) → behind ≡ handed_over handovers values stepped → behind ≡ row_behind net steps handovers states inputs
+row_left net steps handovers states stepped behind inputs values filled stood e = e ∙ ap₂ (handed_over handovers) filled stood
 
-pub row_kept : (net : NetData) (steps : List Step) (handovers : List Handover) (states behind : List State) (inputs : List ℤ) → ArePlanned net steps handovers states → AreTyped net inputs → behind ≡ row_behind steps handovers states inputs → AreKept net behind
+pub row_kept : (net : NetData) (steps : List Step) (handovers : List Handover) (states behind : List State) (inputs : List ℤ) → ArePlanned net steps handovers states → AreTyped net inputs → behind ≡ row_behind net steps handovers states inputs → AreKept net behind
 row_kept net steps handovers states behind inputs p typed e =
     let given : IsGiven net states inputs = record { valid = p.valid; kept = p.kept; typed = typed } in
     subst (AreKept net) (sym (e ∙ row_behind-is net steps handovers states inputs p)) (all_kept net states inputs given)
 
-pub row_after : (net : NetData) (steps : List Step) (handovers : List Handover) (states behind : List State) (inputs : List ℤ) (rows : List (List ℤ)) → ArePlanned net steps handovers states → IsAfter net rows states → behind ≡ row_behind steps handovers states inputs → IsAfter net (inputs ∷ rows) behind
+pub row_after : (net : NetData) (steps : List Step) (handovers : List Handover) (states behind : List State) (inputs : List ℤ) (rows : List (List ℤ)) → ArePlanned net steps handovers states → IsAfter net rows states → behind ≡ row_behind net steps handovers states inputs → IsAfter net (inputs ∷ rows) behind
 row_after net steps handovers states behind inputs rows p after e =
     e ∙ row_behind-is net steps handovers states inputs p ∙ states_row net states inputs rows (record { valid = p.valid; kept = after })
 
-pub row_outputs : (net : NetData) (steps : List Step) (handovers : List Handover) (states : List State) (inputs values out : List ℤ) (outs : List WireNo) (rows : List (List ℤ)) → ArePlanned net steps handovers states → IsAfter net rows states → values ≡ values_of steps states inputs (length steps) → outs ≡ net.outs → out ≡ map (λ o. value_at values o.0) outs → out ≡ outputs_of net (inputs ∷ rows)
+pub row_outputs : (net : NetData) (steps : List Step) (handovers : List Handover) (states : List State) (inputs values out : List ℤ) (outs : List WireNo) (rows : List (List ℤ)) → ArePlanned net steps handovers states → IsAfter net rows states → values ≡ values_of net steps states inputs (length steps) → outs ≡ net.outs → out ≡ map (λ o. value_at values o.0) outs → out ≡ outputs_of net (inputs ∷ rows)
 row_outputs net steps handovers states inputs values out outs rows p after filled named read =
     read
-    ∙ ap₂ (λ l os. map (λ o. value_at l o.0) os) (filled ∙ ap₂ (λ l n. values_of l states inputs n) p.resolved (length-steps net steps handovers states p)) named
+    ∙ ap₂ (λ l os. map (λ o. value_at l o.0) os) (filled ∙ ap₂ (λ l n. values_of net l states inputs n) p.resolved (length-steps net steps handovers states p)) named
     ∙ outputs_row net states inputs rows (record { valid = p.valid; kept = after })
 
 -- ---- what is said of a plan's network is said of the plan

@@ -1,5 +1,5 @@
 -- The steps of the forms with binary points: what they are given, and the values that they give.
-use Rattle.std.proofs.Common.{◌≡◌, ℕ, ◌<◌, ◌∷◌, length, ℤ, refl, sym, ap, ap₂, ◌∙◌, arith}
+use Rattle.std.proofs.Common.{◌≡◌, ℕ, ◌<◌, List, ◌∷◌, length, ℤ, refl, sym, ap, ap₂, ◌∙◌, arith}
 use Rattle.std.specs.Prelude.{IfSome, slice_get}
 use Rattle.fx_fraction.specs.Fraction.{Fraction, whole}
 use Rattle.fx_core.specs.declared.word_type.Ty.{Ty}
@@ -21,7 +21,7 @@ use Rattle.net_model.specs.declared.wires.Kind.TheVariants.{Num}
 use Rattle.net_model.specs.declared.wires.Block.{Block}
 use Rattle.net_model.specs.declared.wires.Block.TheVariants.{Scaled}
 use Rattle.net_model.specs.declared.wires.Item.TheVariants.{Block as OfBlock}
-use Rattle.net_model.specs.Wires.{NetData, wire_at, argument_of, kind_least, kind_greatest}
+use Rattle.net_model.specs.Wires.{NamedAxis, NetData, wire_at, argument_of, kind_least, kind_greatest}
 use Rattle.net_model.specs.Validity.{IsValid}
 use Rattle.net_model.proofs.ValidityFacts.{scaled-valid, number_kind, point_of-valid}
 use Rattle.net_meaning.specs.Cells.{cell_at}
@@ -54,17 +54,17 @@ quotient_reads Div points m = refl
 quotient_reads other points m = refl
 
 -- the value of a form between the ends of a kind, from its arguments by number
-abbrev scaled_between : ScaledOp → Kind → (ℕ → ℤ) → Points → ℤ
-scaled_between op kind m points =
+abbrev scaled_between : List NamedAxis → ScaledOp → Kind → (ℕ → ℤ) → Points → ℤ
+scaled_between axes op kind m points =
     let given : ℕ → Fraction = λ p. whole (m p) in
-    value_between Zero (kind_least kind) (kind_greatest kind) (quotient_of op points given) (scaled_formula op points given)
+    value_between Zero (kind_least axes kind) (kind_greatest axes kind) (quotient_of op points given) (scaled_formula op points given)
 
 -- a form's value on a wire of its output's type
-scaled_value-is : (op : ScaledOp) (t : Ty) (kind : Kind) (point : ℕ) (m : ℕ → ℤ) (points : Points) → kind ≡ Num t point → scaled_value op t (m 0) (m 1) points ≡ scaled_between op kind m points
+scaled_value-is : (axes : List NamedAxis) (op : ScaledOp) (t : Ty) (kind : Kind) (point : ℕ) (m : ℕ → ℤ) (points : Points) → kind ≡ Num t point → scaled_value op t (m 0) (m 1) points ≡ scaled_between axes op kind m points
 unfolding scaled_value value_in
-scaled_value-is op t kind point m points e =
+scaled_value-is axes op t kind point m points e =
     ap₂ (value_between Zero (least_of t) (greatest_of t)) (quotient_reads op points m) (formula_reads op points m)
-    ∙ ap (λ k. scaled_between op k m points) (sym e)
+    ∙ ap (λ k. scaled_between axes op k m points) (sym e)
 
 -- ---- the step
 
@@ -84,8 +84,8 @@ scaled_faithful net i op v x y valid lt e =
         point_of-valid net y.0 valid (omega (arith, lt, g.earlier_y)),
         point_of-valid net i valid lt,
       );
-      held = λ state inputs values typed may. held_in_kind v.o _ kind.0 _ kind.1 (saturated_held v.o _);
+      held = λ state inputs values typed may. held_in_kind net.axes v.o _ kind.0 _ kind.1 (saturated_held v.o _);
       right = λ state inputs rows past cells kept.
           ap₂ (λ a b. scaled_value op v.o a b points) (value_at-values_in cells x.0) (value_at-values_in cells y.0)
-          ∙ scaled_value-is op v.o (wire_at net.wires i).kind kind.0 (λ p. (cell_at machine (cells ∷ past) 0 (argument_of (Scaled op v x y) p)).value) points kind.1;
+          ∙ scaled_value-is net.axes op v.o (wire_at net.wires i).kind kind.0 (λ p. (cell_at machine (cells ∷ past) 0 (argument_of (Scaled op v x y) p)).value) points kind.1;
     }

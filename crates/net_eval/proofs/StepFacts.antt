@@ -99,25 +99,25 @@ handovers_same net i handovers item is other e =
 
 -- ---- a row's values, and the states behind it
 
-pub values_start : (steps : List Step) (states : List State) (inputs : List ℤ) → [] ≡ values_of steps states inputs 0
+pub values_start : (net : NetData) (steps : List Step) (states : List State) (inputs : List ℤ) → [] ≡ values_of net steps states inputs 0
 unfolding values_of
-values_start steps states inputs = refl
+values_start net steps states inputs = refl
 
-pub values_push : (steps : List Step) (states : List State) (inputs values : List ℤ) (i : ℕ) (step : Step) (state : State) (v r : ℤ) → i < length values → take i values ≡ values_of steps states inputs i → v ≡ r → r ≡ step_value step state inputs (take i values) → step ≡ step_at steps i → state ≡ state_at states i → take (i + 1) (set values i v) ≡ values_of steps states inputs (i + 1)
+pub values_push : (net : NetData) (steps : List Step) (states : List State) (inputs values : List ℤ) (i : ℕ) (step : Step) (state : State) (v r : ℤ) → i < length values → take i values ≡ values_of net steps states inputs i → v ≡ r → r ≡ step_value net step state inputs (take i values) → step ≡ step_at steps i → state ≡ state_at states i → take (i + 1) (set values i v) ≡ values_of net steps states inputs (i + 1)
 unfolding values_of
-values_push steps states inputs values i step state v r lt e same h taken old =
+values_push net steps states inputs values i step state v r lt e same h taken old =
     take_more_set values i v lt
-    ∙ ap₂ (λ l x. l ++ x ∷ []) e (same ∙ h ∙ ap (λ s. step_value s state inputs (take i values)) taken ∙ ap₂ (λ s l. step_value (step_at steps i) s inputs l) old e)
-    ∙ sym (ap (values_of steps states inputs) (add-one i))
+    ∙ ap₂ (λ l x. l ++ x ∷ []) e (same ∙ h ∙ ap (λ s. step_value net s state inputs (take i values)) taken ∙ ap₂ (λ s l. step_value net (step_at steps i) s inputs l) old e)
+    ∙ sym (ap (values_of net steps states inputs) (add-one i))
 
-pub states_start : (steps : List Step) (states : List State) (inputs : List ℤ) → [] ≡ states_of steps states inputs 0
+pub states_start : (net : NetData) (steps : List Step) (states : List State) (inputs : List ℤ) → [] ≡ states_of net steps states inputs 0
 unfolding states_of
-states_start steps states inputs = refl
+states_start net steps states inputs = refl
 
-pub states_set : (steps : List Step) (states now : List State) (inputs values : List ℤ) (i : ℕ) (step : Step) (state new : State) → i < length now → take i values ≡ values_of steps states inputs i → take i now ≡ states_of steps states inputs i → new ≡ state_behind step state (take i values) → step ≡ step_at steps i → state ≡ state_at states i → take (i + 1) (set now i new) ≡ states_of steps states inputs (i + 1)
+pub states_set : (net : NetData) (steps : List Step) (states now : List State) (inputs values : List ℤ) (i : ℕ) (step : Step) (state new : State) → i < length now → take i values ≡ values_of net steps states inputs i → take i now ≡ states_of net steps states inputs i → new ≡ state_behind step state (take i values) → step ≡ step_at steps i → state ≡ state_at states i → take (i + 1) (set now i new) ≡ states_of net steps states inputs (i + 1)
 unfolding states_of
-states_set steps states now inputs values i step state new lt v e h taken old =
-    list_set (kept_behind steps states inputs) now new i lt e (h ∙ ap (λ s. state_behind s state (take i values)) taken ∙ ap₂ (λ s l. state_behind (step_at steps i) s l) old v)
+states_set net steps states now inputs values i step state new lt v e h taken old =
+    list_set (kept_behind net steps states inputs) now new i lt e (h ∙ ap (λ s. state_behind s state (take i values)) taken ∙ ap₂ (λ s l. state_behind (step_at steps i) s l) old v)
 
 -- no handover yet, and one more
 pub handed_none : (values : List ℤ) (states : List State) → states ≡ handed_over [] values states

@@ -9,7 +9,7 @@ use Rattle.net_model.specs.declared.wires.Block.{Block}
 use Rattle.net_model.specs.declared.wires.Block.TheVariants.{Gain, Average, Pt1, Dt1}
 use Rattle.net_model.specs.declared.wires.Item.{Item}
 use Rattle.net_model.specs.declared.wires.Item.TheVariants.{Input, Const, Delay, Block as OfBlock}
-use Rattle.net_model.specs.Wires.{NetData, wire_at, kind_least, kind_greatest}
+use Rattle.net_model.specs.Wires.{NamedAxis, NetData, wire_at, kind_least, kind_greatest}
 use Rattle.net_meaning.specs.Cells.{Cell, cell_at}
 use Rattle.net_meaning.specs.Blocks.{machine}
 use Rattle.net_eval.specs.declared.states.State.{State}
@@ -152,16 +152,18 @@ block_kept cells i other = Nothing
 
 -- ---- what a wire may keep
 
--- a delay on a wire of this kind may keep a value of the kind
-abbrev pub MayHold : Kind → State → Type 0
-MayHold kind state =
-    (state ≡ Held (held_in state)) × (kind_least kind ≤ℤ held_in state) × (held_in state ≤ℤ kind_greatest kind)
+-- a delay on a wire of this kind may keep a value of the kind, in a network with these axes
+abbrev pub MayHold : List NamedAxis → Kind → State → Type 0
+MayHold axes kind state =
+    (state ≡ Held (held_in state))
+    × (kind_least axes kind ≤ℤ held_in state)
+    × (held_in state ≤ℤ kind_greatest axes kind)
 
 -- wire i may keep this, by its item; a block a filter of its own types and numbers, which put back is what the block starts with
 abbrev pub MayKeep : NetData → ℕ → Item → State → Type 0
 MayKeep net i (Input lo hi) state = state ≡ Nothing
 MayKeep net i (Const value) state = state ≡ Nothing
-MayKeep net i (Delay init source) state = MayHold (wire_at net.wires i).kind state
+MayKeep net i (Delay init source) state = MayHold net.axes (wire_at net.wires i).kind state
 MayKeep net i (OfBlock b) state = restarted state ≡ block_start b
 
 -- there is a state for each wire, and it is one that the wire may keep

@@ -7,4 +7,4 @@ use Rattle.net_model.specs.Validity.{kind_holds}
 abbrev pub AreTyped : NetData → List ℤ → Type 0
 AreTyped net inputs =
     (i : ℕ) → i < length net.wires → IsTrue (is_input (wire_at net.wires i).item) →
-    IsTrue (kind_holds (wire_at net.wires i).kind (get_or inputs (input_place net.wires i) (pos 0)))
+    IsTrue (kind_holds net.axes (wire_at net.wires i).kind (get_or inputs (input_place net.wires i) (pos 0)))

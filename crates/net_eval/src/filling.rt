@@ -35,21 +35,21 @@ pub(crate) fn evaluate(
     ensures values { (rows : List (List ℤ)) → IsAfter net.now rows states.old
         → out.new ≡ outputs_of net.now (inputs.now ∷ rows) }
 {
-    fill(steps, states, inputs, buffer);
+    fill(net, steps, states, inputs, buffer);
     hand_over(handovers, buffer, states);
     pick(net.outs(), buffer, out);
 }
 
 /// Writes the value of each step, from the first on, and what its wire keeps behind the step.
-fn fill(steps: &[Step], states: &mut [State], inputs: &[i64], values: &mut [i64])
+fn fill(net: &Network, steps: &[Step], states: &mut [State], inputs: &[i64], values: &mut [i64])
     requires states { length states.old ≡ length steps.now }
     requires room { length values.old ≡ length steps.now }
-    requires ready { AreReady steps.now states.old inputs.now }
-    ensures values { values.new ≡ values_of steps.now states.old inputs.now (length steps.now) }
-    ensures states { states.new ≡ states_of steps.now states.old inputs.now (length steps.now) }
+    requires ready { AreReady net.now steps.now states.old inputs.now }
+    ensures values { values.new ≡ values_of net.now steps.now states.old inputs.now (length steps.now) }
+    ensures states { states.new ≡ states_of net.now steps.now states.old inputs.now (length steps.now) }
 {
     for i in 0..steps.len() {
-        let value = step_value(&steps[i], &mut states[i], inputs, &values[..i]);
+        let value = step_value(net, &steps[i], &mut states[i], inputs, &values[..i]);
         values[i] = value;
     }
 }

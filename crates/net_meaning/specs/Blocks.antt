@@ -1,18 +1,22 @@
 -- The blocks: one formula each for the value, and one for the state Y where the block has one, all on fractions; and
 -- what the machine and exact fractions make of them.
-use Rattle.std.specs.Prelude.{ℕ, Bool, ℤ, pos, Option, Some, None, if◌then◌else◌}
+use Rattle.std.specs.Prelude.{ℕ, Bool, ℤ, pos, unsigned_abs, List, Option, Some, None, if◌then◌else◌}
 use Rattle.fx_fraction.specs.Fraction.{Fraction, whole, minus}
 use Rattle.fx_core.specs.declared.quotient.Mode.{Mode}
-use Rattle.fx_core.specs.declared.quotient.Mode.TheVariants.{Zero, Near}
+use Rattle.fx_core.specs.declared.quotient.Mode.TheVariants.{Zero, Near, Floor}
 use Rattle.fx_core.specs.Types.{saturated_to}
 use Rattle.fx_core.specs.Values.{rounded_fraction, unsaturated, value_between}
 use Rattle.mfx_scaled.specs.declared.binary_points.Points.{Points}
 use Rattle.net_model.specs.declared.wires.Kind.{Kind}
 use Rattle.net_model.specs.declared.wires.Block.{Block}
-use Rattle.net_model.specs.declared.wires.Block.TheVariants.{Arith, Scaled, Gain, Average, Pt1, Dt1}
-use Rattle.net_model.specs.Wires.{NetData, wire_at, argument_of, point_of, kind_least, kind_greatest}
+use Rattle.net_model.specs.declared.wires.Block.TheVariants.{Arith, Scaled, Gain, Average, Pt1, Dt1, Search, Curve, IntCurve}
+use Rattle.net_model.specs.Wires.{NamedAxis, NetData, axis_at, table_at, wire_at, argument_of, point_of, kind_least, kind_greatest}
 use Rattle.mfx_scaled.specs.Formulas.{scaled_formula, quotient_of as scaled_quotient}
 use Rattle.mfx_arith.specs.Formulas.{arith_formula, quotient_of as arith_quotient}
+use Rattle.fx_routines.specs.declared.interpolation.CurveOp.{CurveOp}
+use Rattle.fx_routines.specs.declared.interpolation.CurveOp.TheVariants.{Ipo, LkUp}
+use Rattle.ifx_search.specs.Positions.{position}
+use Rattle.ifx_curves.specs.Curves.{curve, looked_up}
 use Rattle.efx_filters.specs.Formulas.{gain_formula, lag_formula, value_formula, average_formula}
 pub use Rattle.efx_filters.specs.Formulas.{state_least, state_greatest}
 use Rattle.net_meaning.specs.Cells.{Cell, Meaning}
@@ -33,6 +37,14 @@ mode_of (Gain xty ty x k) = Near
 mode_of (Average xty ty x n) = Near
 mode_of (Pt1 xty ty x teq k) = Near
 mode_of (Dt1 second xty ty x teq k) = Near
+mode_of (Search ty x axis) = Floor
+mode_of (Curve op dp table) = Floor
+mode_of (IntCurve op x axis table) = Floor
+
+-- a curve through these values at a position: interpolated, or looked up at the position rounded downward
+abbrev pub curve_formula : CurveOp → List ℤ → Fraction → Fraction
+curve_formula Ipo values t = curve values t
+curve_formula LkUp values t = whole (looked_up values (unsigned_abs (rounded_fraction Floor t)))
 
 -- a block's value, unrounded, from what it reads and its new state
 unfoldable pub formula : NetData → Kind → Block → (ℕ → ℕ → Fraction) → Fraction → Fraction
@@ -42,6 +54,10 @@ formula net kind (Gain xty ty x k) given state = gain_formula k (given 0 0)
 formula net kind (Average xty ty x n) given state = average_formula n (given 0)
 formula net kind (Pt1 xty ty x teq k) given state = value_formula state
 formula net kind (Dt1 second xty ty x teq k) given state = value_formula state
+formula net kind (Search ty x axis) given state = position (axis_at net.axes axis).points (given 0 0)
+formula net kind (Curve op dp table) given state = curve_formula op (table_at net.tables table).values (given 0 0)
+formula net kind (IntCurve op x axis table) given state =
+    curve_formula op (table_at net.tables table).values (position (axis_at net.axes axis).points (given 0 0))
 
 -- the difference that drives a differentiating lag, from its inputs so many rows ago: of this row's and the one's before
 -- where it is of the second type, else of the one's before and the one's before that
@@ -56,6 +72,9 @@ state_formula net (Gain xty ty x k) given old = None
 state_formula net (Average xty ty x n) given old = None
 state_formula net (Pt1 xty ty x teq k) given old = Some (lag_formula teq k old (given 0 1))
 state_formula net (Dt1 second xty ty x teq k) given old = Some (lag_formula teq k old (difference_of second (given 0)))
+state_formula net (Search ty x axis) given old = None
+state_formula net (Curve op dp table) given old = None
+state_formula net (IntCurve op x axis table) given old = None
 
 -- the dividend and the divisor of a block that divides, from what it reads
 unfoldable pub quotient_of : NetData → Kind → Block → (ℕ → ℕ → Fraction) → Option (Fraction × Fraction)
@@ -65,6 +84,9 @@ quotient_of net kind (Gain xty ty x k) given = None
 quotient_of net kind (Average xty ty x n) given = None
 quotient_of net kind (Pt1 xty ty x teq k) given = None
 quotient_of net kind (Dt1 second xty ty x teq k) given = None
+quotient_of net kind (Search ty x axis) given = None
+quotient_of net kind (Curve op dp table) given = None
+quotient_of net kind (IntCurve op x axis table) given = None
 
 -- whole numbers as fractions
 abbrev pub as_fractions : (ℕ → ℕ → ℤ) → ℕ → ℕ → Fraction
@@ -84,14 +106,14 @@ abbrev pub exact_state : Option Fraction → Fraction
 exact_state None = whole (pos 0)
 exact_state (Some y) = y
 
--- a machine's cell, from its library's rounding, the kind of its wire, its state before saturation, and its block's
+-- a machine's cell, from its library's rounding, the axes of its network and the kind of its wire, its state before saturation, and its block's
 -- quotient and formula
-unfoldable pub machine_cell : Mode → Kind → ℤ → Option (Fraction × Fraction) → Fraction → Cell ℤ
-machine_cell mode kind state quotient value = record {
+unfoldable pub machine_cell : Mode → List NamedAxis → Kind → ℤ → Option (Fraction × Fraction) → Fraction → Cell ℤ
+machine_cell mode axes kind state quotient value = record {
   state = saturated_state state;
   state_unsaturated = state;
-  value = value_between mode (kind_least kind) (kind_greatest kind) quotient value;
-  value_unsaturated = unsaturated mode (kind_least kind) (kind_greatest kind) quotient value;
+  value = value_between mode (kind_least axes kind) (kind_greatest axes kind) quotient value;
+  value_unsaturated = unsaturated mode (kind_least axes kind) (kind_greatest axes kind) quotient value;
 }
 
 -- a block's state in the machine before saturation, from what it reads and its state a row earlier
@@ -109,7 +131,7 @@ machine = record {
   of_block = λ net kind b given before.
       let state = machine_state_of net b given before.state in
       let quotient = quotient_of net kind b (as_fractions given) in
-      machine_cell (mode_of b) kind state quotient (machine_formula net kind b given (saturated_state state));
+      machine_cell (mode_of b) net.axes kind state quotient (machine_formula net kind b given (saturated_state state));
 }
 
 -- an exact cell, which has nothing to saturate, from its state and its value

@@ -43,9 +43,9 @@ pub record FitsAt (net : NetData) (w : Wire) (m : ℕ → ℕ → Cell ℤ) (e :
   -- nor is it in exact fractions
   pub exact_divides : ItemDivides net w w.item (wire_values e)
   -- its value before saturation isn't below the least value of its kind
-  pub value_low : kind_least w.kind ≤ℤ cell.value_unsaturated
+  pub value_low : kind_least net.axes w.kind ≤ℤ cell.value_unsaturated
   -- nor is it above the greatest, so that saturation doesn't change it
-  pub value_high : cell.value_unsaturated ≤ℤ kind_greatest w.kind
+  pub value_high : cell.value_unsaturated ≤ℤ kind_greatest net.axes w.kind
   -- its state before saturation isn't below the least state
   pub state_low : state_least ≤ℤ cell.state_unsaturated
   -- nor is it above the greatest, so that saturation doesn't change it

@@ -102,7 +102,7 @@ unfolding remains new_from good_from
 remains-end same good xs i past = ap (λ t. new_from same (take i xs) t && good_from good i t) (drop_of_length-le xs past)
 
 -- the order of two lists of bytes doesn't matter where they are compared
-same_tests : (a b : Bool) → (a ≡ true → b ≡ true) → (b ≡ true → a ≡ true) → a ≡ b
+pub same_tests : (a b : Bool) → (a ≡ true → b ≡ true) → (b ≡ true → a ≡ true) → a ≡ b
 same_tests true b there back = sym (there refl)
 same_tests false true there back = back refl
 same_tests false false there back = refl

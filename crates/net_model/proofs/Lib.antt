@@ -1,9 +1,11 @@
-mod DraftLemmas
+pub mod DraftLemmas
+pub mod ListNames
 pub mod PartPlaces
 mod NumberingLemmas
 mod NameLemmas
 pub mod FamilyFacts
 pub mod ValidityFacts
+pub mod LookUpFacts
 pub mod TestedDrafts
 pub mod HeldKinds
 pub mod SideBySide

@@ -1,5 +1,5 @@
 -- A draft passes its tests exactly where its network is valid.
-use Rattle.std.proofs.Common.{add-one, zero-add, leb-true, leb-false, cond, Some, drop-cons, drop_of_length-le, ltb-true, ltb-false, true≢false, ◌||◌, ◌≡◌, ℕ, zero, suc, ◌+◌, ◌<◌, ◌≤◌, Bool, true, false, not, ◌&&◌, List, [], ◌∷◌, ◌++◌, map, length, get_or, take, drop, nat_lt, nat_le, le-leb, refl, sym, ap, ap₂, ◌∙◌, Result, Ok, Err, bytes_eq, arith}
+use Rattle.std.proofs.Common.{add-one, zero-add, leb-true, leb-false, cond, Some, drop-cons, drop_of_length-le, true≢false, ◌||◌, ◌≡◌, ℕ, zero, suc, ◌+◌, ◌<◌, ◌≤◌, Bool, true, false, not, ◌&&◌, List, [], ◌∷◌, ◌++◌, map, length, get_or, take, drop, nat_lt, nat_le, le-leb, refl, sym, ap, ap₂, ◌∙◌, Result, Ok, Err, bytes_eq, arith}
 use Rattle.std.specs.Prelude.{is_ok}
 use Rattle.std.specs.List.{list_any, list_all, position_from}
 use Rattle.std.proofs.lemmas.Iterator.Adapters.{position_from-zero}
@@ -13,11 +13,12 @@ use Rattle.net_model.specs.declared.draft_checks.Fault.{Fault}
 use Rattle.net_model.specs.declared.wires.WireNo.{WireNo}
 use Rattle.net_model.specs.declared.wires.Wire.{Wire}
 use Rattle.net_model.specs.Wires.{NetData, no_wire, window_of, window_sum}
-use Rattle.net_model.specs.Validity.{IsValid, is_valid, is_good_wire, is_good_kind, is_sourced, is_built_item, item_reads_earlier, item_agrees, item_in_range, are_good_from, are_distinct, is_among, are_distinct_outs, has_ends}
-use Rattle.net_model.specs.Faults.{are_named, has_name, has_room, unsourced_at, sources_tested, wire_tested, at_wire, wires_tested, out_tested, outs_tested, ends_tested, tested}
+use Rattle.net_model.specs.Validity.{AreAxes, AreTables, axis_names, table_names, wire_names, list_names, IsValid, is_valid, is_good_wire, is_good_kind, is_sourced, is_built_item, item_reads_earlier, item_agrees, item_in_range, are_good_from, is_among, are_distinct_outs, has_ends}
+use Rattle.net_model.specs.Faults.{is_named, lists_tested, are_named, has_name, has_room, unsourced_at, sources_tested, wire_tested, at_wire, wires_tested, out_tested, outs_tested, ends_tested, tested}
 use Rattle.net_model.specs.Laws.{TestsDecideValidity}
 use Rattle.net_model.proofs.ValidityFacts.{conditions, name_of_good}
-use Rattle.net_model.proofs.DraftLemmas.{distinct, new_from, good_from, apart-nil, new_from-is, remains, remains-zero, remains-step, remains-end, same_name, same_name_comm, same_number, same_number_comm}
+use Rattle.net_model.proofs.ListNames.{unlisted, unlisted-is, names_apart, lists_decide}
+use Rattle.net_model.proofs.DraftLemmas.{same_tests, apart, distinct, new_from, good_from, apart-nil, new_from-is, remains, remains-zero, remains-step, remains-end, same_name, same_name_comm, same_number, same_number_comm}
 
 -- two tests in their order
 two_tests : Bool → Bool → Result (Unit {0}) NetKind
@@ -47,28 +48,34 @@ six_tests_pass true true false d e f = refl
 six_tests_pass true false c d e f = refl
 six_tests_pass false b c d e f = refl
 
-regroup_tests : (a n b c d k r m : Bool) → n ≡ true → (a && (b && (c && (d && ((k && r) && m))))) ≡ (a && ((n && b && c && d && k && r) && m))
-regroup_tests true true true true true true r m h = refl
-regroup_tests true true true true true false r m h = refl
-regroup_tests true true true true false k r m h = refl
-regroup_tests true true true false d k r m h = refl
-regroup_tests true true false c d k r m h = refl
-regroup_tests a false b c d k r m h = absurd (true≢false (sym h))
-regroup_tests false true b c d k r m h = refl
+regroup_tests : (l a n b c d k r m : Bool) → n ≡ true → (not (l || a) && (b && (c && (d && ((k && r) && m))))) ≡ (not a && (not l && ((n && b && c && d && k && r) && m)))
+regroup_tests false false true true true true true r m h = refl
+regroup_tests false false true true true true false r m h = refl
+regroup_tests false false true true true false k r m h = refl
+regroup_tests false false true true false d k r m h = refl
+regroup_tests false false true false c d k r m h = refl
+regroup_tests l a false b c d k r m h = absurd (true≢false (sym h))
+regroup_tests false true true b c d k r m h = refl
+regroup_tests true true true b c d k r m h = refl
+regroup_tests true false true b c d k r m h = refl
 
 -- there is room for wire i behind those before it
 room_at : List Wire → ℕ → Wire → Bool
 room_at wires i w = has_room (take i wires) w.item
 
 -- the wire is good in its place, and there is room for it
+fits_place : NetData → ℕ → Wire → Bool
+fits_place net i w = is_good_wire net i w && room_at net.wires i w
+
+-- and it has the name of no axis and no table
 good_place : NetData → ℕ → Wire → Bool
-good_place net i w = is_good_wire net i w && room_at net.wires i w
+good_place net i w = unlisted (list_names net) i w && fits_place net i w
 
 wire_passes : (net : NetData) (i : ℕ) (w : Wire) → is_name w.name ≡ true → is_ok (wire_tested net i w) ≡ (not (list_any (same_name w) (take i net.wires)) && good_place net i w)
-unfolding wire_tested six_tests same_name good_place room_at
+unfolding wire_tested six_tests same_name good_place fits_place room_at unlisted
 wire_passes net i w named =
-    six_tests_pass (not (has_name (take i net.wires) w.name)) (is_built_item w.item) (item_reads_earlier i w.item) (item_agrees net w.kind w.item) (is_good_kind w.kind && item_in_range w.kind w.item) (has_room (take i net.wires) w.item)
-    ∙ regroup_tests (not (has_name (take i net.wires) w.name)) (is_name w.name) (is_built_item w.item) (item_reads_earlier i w.item) (item_agrees net w.kind w.item) (is_good_kind w.kind) (item_in_range w.kind w.item) (has_room (take i net.wires) w.item) named
+    six_tests_pass (not (is_named (list_names net) w.name || has_name (take i net.wires) w.name)) (is_built_item w.item) (item_reads_earlier i w.item) (item_agrees net w.kind w.item) (is_good_kind w.kind && item_in_range net.axes w.kind w.item) (has_room (take i net.wires) w.item)
+    ∙ regroup_tests (is_named (list_names net) w.name) (has_name (take i net.wires) w.name) (is_name w.name) (is_built_item w.item) (item_reads_earlier i w.item) (item_agrees net w.kind w.item) (is_good_kind w.kind) (item_in_range net.axes w.kind w.item) (has_room (take i net.wires) w.item) named
 
 -- ---- all wires
 
@@ -177,10 +184,16 @@ room_for_all wires =
     ∙ ap (λ ws. nat_le (window_sum ws) 65536) (take_all (length wires) wires (omega arith)))
 
 -- the wires are good where they are in their places and there is room for all
-good_places : (net : NetData) → good_from (good_place net) 0 net.wires ≡ (are_good_from net 0 net.wires && (nat_le (length net.wires) 512 && nat_le (window_sum net.wires) 65536))
+fit_places : (net : NetData) → good_from (fits_place net) 0 net.wires ≡ (are_good_from net 0 net.wires && (nat_le (length net.wires) 512 && nat_le (window_sum net.wires) 65536))
+unfolding fits_place
+fit_places net =
+    pass_both (is_good_wire net) (room_at net.wires) (fits_place net) (λ i w. refl) 0 net.wires ∙ ap₂ (λ s t. s && t) (good_wires net 0 net.wires) (room_for_all net.wires)
+
+-- and where none has the name of an axis or a table
+good_places : (net : NetData) → good_from (good_place net) 0 net.wires ≡ (apart bytes_eq (list_names net) (wire_names net.wires) && (are_good_from net 0 net.wires && (nat_le (length net.wires) 512 && nat_le (window_sum net.wires) 65536)))
 unfolding good_place
 good_places net =
-    pass_both (is_good_wire net) (room_at net.wires) (good_place net) (λ i w. refl) 0 net.wires ∙ ap₂ (λ s t. s && t) (good_wires net 0 net.wires) (room_for_all net.wires)
+    pass_both (unlisted (list_names net)) (fits_place net) (good_place net) (λ i w. refl) 0 net.wires ∙ ap₂ (λ s t. s && t) (unlisted-is (list_names net) 0 net.wires) (fit_places net)
 
 -- ---- the delays' sources
 
@@ -202,13 +215,13 @@ list_any-names : (name : List ℕ) (wires : List Wire) → list_any (bytes_eq na
 list_any-names name [] = refl
 list_any-names name (w ∷ wires) = ap (λ t. bytes_eq name w.name || t) (list_any-names name wires)
 
-distinct-names : (wires : List Wire) → distinct same_name wires ≡ are_distinct (map (λ w. w.name) wires)
+distinct-names : (wires : List Wire) → distinct same_name wires ≡ distinct bytes_eq (wire_names wires)
 unfolding distinct same_name
 distinct-names [] = refl
 distinct-names (w ∷ wires) = ap₂ (λ t u. not t && u) (sym (list_any-names w.name wires)) (distinct-names wires)
 
 -- the tests of all wires are those of their names, of each wire in its place, and of what there is room for
-wires_decide : (net : NetData) → are_named net.wires ≡ true → is_ok (wires_tested net 0 net.wires) ≡ (are_distinct (map (λ w. w.name) net.wires) && (are_good_from net 0 net.wires && (nat_le (length net.wires) 512 && nat_le (window_sum net.wires) 65536)))
+wires_decide : (net : NetData) → are_named net.wires ≡ true → is_ok (wires_tested net 0 net.wires) ≡ (distinct bytes_eq (wire_names net.wires) && (apart bytes_eq (list_names net) (wire_names net.wires) && (are_good_from net 0 net.wires && (nat_le (length net.wires) 512 && nat_le (window_sum net.wires) 65536))))
 wires_decide net named =
     wires_pass net (length net.wires) 0 (zero-add (length net.wires)) named
     ∙ remains-zero same_name (good_place net) same_name_comm net.wires
@@ -245,10 +258,11 @@ outs_decide count outs =
 
 -- ---- the whole draft
 
-behind_outs : (b : Bool) (outs : Result (Unit {0}) NetKind) → is_ok (outs >>= λ _. demand b Missing) ≡ (is_ok outs && b)
-behind_outs true (Ok u) = refl
-behind_outs false (Ok u) = refl
-behind_outs b (Err k) = refl
+behind_outs : (b : Bool) (lists outs : Result (Unit {0}) NetKind) → is_ok (lists >>= λ _. outs >>= λ _. demand b Missing) ≡ (is_ok lists && (is_ok outs && b))
+behind_outs true (Ok u) (Ok v) = refl
+behind_outs false (Ok u) (Ok v) = refl
+behind_outs b (Ok u) (Err k) = refl
+behind_outs b (Err k) outs = refl
 
 behind_wires : (i : ℕ) (wires sources : Result (Unit {0}) Fault) (ends : Result (Unit {0}) NetKind) → is_ok (wires >>= λ _. sources >>= λ _. at_wire i ends) ≡ (is_ok wires && (is_ok sources && is_ok ends))
 behind_wires i (Ok u) (Ok s) (Ok v) = refl
@@ -256,32 +270,97 @@ behind_wires i (Ok u) (Ok s) (Err k) = refl
 behind_wires i (Ok u) (Err f) ends = refl
 behind_wires i (Err f) sources ends = refl
 
-regroup_all : (f r d g s o n e : Bool) → ((d && (g && (f && r))) && (s && ((n && o) && e))) ≡ (f && r && d && g && s && o && n && e)
-regroup_all true true true true true true true e = refl
-regroup_all true true true true true true false e = refl
-regroup_all true true true true true false true e = refl
-regroup_all true true true true true false false e = refl
-regroup_all true true true true false o n e = refl
-regroup_all true true true false s o n e = refl
-regroup_all true true false g s o n e = refl
-regroup_all true false true true s o n e = refl
-regroup_all true false true false s o n e = refl
-regroup_all true false false g s o n e = refl
-regroup_all false r true true s o n e = refl
-regroup_all false r true false s o n e = refl
-regroup_all false r false g s o n e = refl
+-- the tests of a network in their order, as a draft makes them and as they are said of a valid network
+abbrev by_draft : (f r a t x p y l w g s o n e : Bool) → Bool
+by_draft f r a t x p y l w g s o n e = (w && (l && (g && (f && r)))) && (s && ((x && (a && ((p && y) && t))) && ((n && o) && e)))
+
+abbrev by_network : (f r a t x p y l w g s o n e : Bool) → Bool
+by_network f r a t x p y l w g s o n e = f && r && a && t && ((x && (p && y)) && (l && w)) && g && s && o && n && e
+
+-- all of them are passed
+record AllPass (f r a t x p y l w g s o n e : Bool) : Type 0 where
+  rows : (f ≡ true) × (r ≡ true)
+  counts : (a ≡ true) × (t ≡ true)
+  lists : (x ≡ true) × (p ≡ true) × (y ≡ true)
+  wires : (l ≡ true) × (w ≡ true) × (g ≡ true)
+  behind : (s ≡ true) × (o ≡ true) × (n ≡ true) × (e ≡ true)
+
+draft_passes : (f r a t x p y l w g s o n e : Bool) → by_draft f r a t x p y l w g s o n e ≡ true → AllPass f r a t x p y l w g s o n e
+draft_passes f r a t x p y l w g s o n e h =
+    let h0 = and_parts (w && (l && (g && (f && r)))) (s && ((x && (a && ((p && y) && t))) && ((n && o) && e))) h in
+    let h1 = and_parts w (l && (g && (f && r))) h0.0 in
+    let h2 = and_parts l (g && (f && r)) h1.1 in
+    let h3 = and_parts g (f && r) h2.1 in
+    let h4 = and_parts f r h3.1 in
+    let h5 = and_parts s ((x && (a && ((p && y) && t))) && ((n && o) && e)) h0.1 in
+    let h6 = and_parts (x && (a && ((p && y) && t))) ((n && o) && e) h5.1 in
+    let h7 = and_parts x (a && ((p && y) && t)) h6.0 in
+    let h8 = and_parts a ((p && y) && t) h7.1 in
+    let h9 = and_parts (p && y) t h8.1 in
+    let h10 = and_parts p y h9.0 in
+    let h11 = and_parts (n && o) e h6.1 in
+    let h12 = and_parts n o h11.0 in
+    record { rows = (h4.0, h4.1); counts = (h8.0, h9.1); lists = (h7.0, h10.0, h10.1); wires = (h2.0, h1.0, h3.0); behind = (h5.0, h12.1, h12.0, h11.1) }
+
+network_passes : (f r a t x p y l w g s o n e : Bool) → by_network f r a t x p y l w g s o n e ≡ true → AllPass f r a t x p y l w g s o n e
+network_passes f r a t x p y l w g s o n e h =
+    let d = (x && (p && y)) && (l && w) in
+    let h1 = and_parts (f && r && a && t && d && g && s && o && n) e h in
+    let h2 = and_parts (f && r && a && t && d && g && s && o) n h1.0 in
+    let h3 = and_parts (f && r && a && t && d && g && s) o h2.0 in
+    let h4 = and_parts (f && r && a && t && d && g) s h3.0 in
+    let h5 = and_parts (f && r && a && t && d) g h4.0 in
+    let h6 = and_parts (f && r && a && t) d h5.0 in
+    let h7 = and_parts (f && r && a) t h6.0 in
+    let h8 = and_parts (f && r) a h7.0 in
+    let h9 = and_parts f r h8.0 in
+    let h10 = and_parts (x && (p && y)) (l && w) h6.1 in
+    let h11 = and_parts x (p && y) h10.0 in
+    let h12 = and_parts p y h11.1 in
+    let h13 = and_parts l w h10.1 in
+    record { rows = (h9.0, h9.1); counts = (h8.1, h7.1); lists = (h11.0, h12.0, h12.1); wires = (h13.0, h13.1, h5.1); behind = (h4.1, h3.1, h2.1, h1.1) }
+
+-- where all are passed, both are true
+both_true : (f r a t x p y l w g s o n e : Bool) → AllPass f r a t x p y l w g s o n e → (by_draft f r a t x p y l w g s o n e ≡ true) × (by_network f r a t x p y l w g s o n e ≡ true)
+both_true true true true true true true true true true true true true true true h = (refl, refl)
+both_true false r a t x p y l w g s o n e h = absurd (true≢false (sym h.rows.0))
+both_true f false a t x p y l w g s o n e h = absurd (true≢false (sym h.rows.1))
+both_true f r false t x p y l w g s o n e h = absurd (true≢false (sym h.counts.0))
+both_true f r a false x p y l w g s o n e h = absurd (true≢false (sym h.counts.1))
+both_true f r a t false p y l w g s o n e h = absurd (true≢false (sym h.lists.0))
+both_true f r a t x false y l w g s o n e h = absurd (true≢false (sym h.lists.1))
+both_true f r a t x p false l w g s o n e h = absurd (true≢false (sym h.lists.2))
+both_true f r a t x p y false w g s o n e h = absurd (true≢false (sym h.wires.0))
+both_true f r a t x p y l false g s o n e h = absurd (true≢false (sym h.wires.1))
+both_true f r a t x p y l w false s o n e h = absurd (true≢false (sym h.wires.2))
+both_true f r a t x p y l w g false o n e h = absurd (true≢false (sym h.behind.0))
+both_true f r a t x p y l w g s false n e h = absurd (true≢false (sym h.behind.1))
+both_true f r a t x p y l w g s o false e h = absurd (true≢false (sym h.behind.2))
+both_true f r a t x p y l w g s o n false h = absurd (true≢false (sym h.behind.3))
+
+regroup_all : (f r a t x p y l w g s o n e : Bool) → by_draft f r a t x p y l w g s o n e ≡ by_network f r a t x p y l w g s o n e
+regroup_all f r a t x p y l w g s o n e =
+    same_tests (by_draft f r a t x p y l w g s o n e) (by_network f r a t x p y l w g s o n e)
+    (λ h. (both_true f r a t x p y l w g s o n e (draft_passes f r a t x p y l w g s o n e h)).1)
+    (λ h. (both_true f r a t x p y l w g s o n e (network_passes f r a t x p y l w g s o n e h)).0)
 
 tested_decides : (net : NetData) → are_named net.wires ≡ true → is_ok (tested net) ≡ is_valid net
 unfolding tested ends_tested is_valid
 tested_decides net named =
     behind_wires (length net.wires) (wires_tested net 0 net.wires) (sources_tested net.wires) (ends_tested net)
     ∙ ap₂ (λ t u. t && u) (wires_decide net named)
-    (ap₂ (λ t u. t && u) (sources_decide net.wires) (behind_outs (has_ends net.wires net.outs) (outs_tested (length net.wires) [] net.outs) ∙ ap (λ t. t && has_ends net.wires net.outs) (outs_decide (length net.wires) net.outs)))
-    ∙ regroup_all (nat_le (length net.wires) 512) (nat_le (window_sum net.wires) 65536) (are_distinct (map (λ w. w.name) net.wires)) (are_good_from net 0 net.wires) (list_all (is_sourced net.wires) net.wires) (are_below (length net.wires) net.outs) (are_distinct_outs net.outs) (has_ends net.wires net.outs)
+    (ap₂ (λ t u. t && u) (sources_decide net.wires)
+    (behind_outs (has_ends net.wires net.outs) (lists_tested net) (outs_tested (length net.wires) [] net.outs)
+    ∙ ap₂ (λ t u. t && (u && has_ends net.wires net.outs)) (lists_decide net) (outs_decide (length net.wires) net.outs)))
+    ∙ regroup_all (nat_le (length net.wires) 512) (nat_le (window_sum net.wires) 65536) (nat_le (length net.axes) 64) (nat_le (length net.tables) 64)
+    (distinct bytes_eq (axis_names net.axes)) (apart bytes_eq (axis_names net.axes) (table_names net.tables)) (distinct bytes_eq (table_names net.tables))
+    (apart bytes_eq (list_names net) (wire_names net.wires)) (distinct bytes_eq (wire_names net.wires))
+    (are_good_from net 0 net.wires) (list_all (is_sourced net.wires) net.wires) (are_below (length net.wires) net.outs) (are_distinct_outs net.outs) (has_ends net.wires net.outs)
+    ∙ ap (λ d. nat_le (length net.wires) 512 && nat_le (window_sum net.wires) 65536 && nat_le (length net.axes) 64 && nat_le (length net.tables) 64 && d && are_good_from net 0 net.wires && list_all (is_sourced net.wires) net.wires && are_below (length net.wires) net.outs && are_distinct_outs net.outs && has_ends net.wires net.outs) (sym (names_apart net))
 
 -- a draft that passes its tests is valid
-pub valid_if_tested : (net : NetData) → are_named net.wires ≡ true → tested net ≡ Ok tt → IsValid net
-valid_if_tested net named h = sym (tested_decides net named) ∙ ap is_ok h
+pub valid_if_tested : (net : NetData) → are_named net.wires ≡ true → AreAxes net.axes → AreTables net.tables → tested net ≡ Ok tt → IsValid net
+valid_if_tested net named axes tables h = record { axes = axes; tables = tables; tests = sym (tested_decides net named) ∙ ap is_ok h }
 
 -- and a valid one passes them
 passed : {E : Type 0} (r : Result (Unit {0}) E) → is_ok r ≡ true → r ≡ Ok tt
@@ -295,7 +374,7 @@ named_from net i (w ∷ wires) h =
     and_from (is_name w.name) (are_named wires) (name_of_good net i w p.0) (named_from net (i + 1) wires p.1)
 
 pub tested_if_valid : (net : NetData) → IsValid net → tested net ≡ Ok tt
-tested_if_valid net valid = passed (tested net) (tested_decides net (named_from net 0 net.wires (conditions net valid).good) ∙ valid)
+tested_if_valid net valid = passed (tested net) (tested_decides net (named_from net 0 net.wires (conditions net valid).good) ∙ valid.tests)
 
 pub tests_decide : TestsDecideValidity
-tests_decide net named = (valid_if_tested net named, tested_if_valid net)
+tests_decide net named axes tables = (valid_if_tested net named axes tables, tested_if_valid net)

@@ -1,11 +1,13 @@
 -- A network as data, and what is read off its wires without running it.
-use Rattle.std.specs.Prelude.{ℕ, suc, ◌+◌, Bool, true, false, List, [], ◌∷◌, ◌++◌, map, length, get_or, take, ℤ, pos, count_by, ◌&&◌, ◌==◌, Option, Some, None, position, bytes_eq, if◌then◌else◌}
+use Rattle.std.specs.Prelude.{ℕ, suc, ◌+◌, ◌-◌, ◌*◌, Bool, true, false, List, [], ◌∷◌, ◌++◌, map, length, get_or, take, ℤ, pos, count_by, ◌&&◌, ◌==◌, Option, Some, None, position, bytes_eq, if◌then◌else◌}
 use Rattle.fx_core.specs.declared.word_type.Ty.TheVariants.{U8}
 use Rattle.fx_core.specs.Types.{least_of, greatest_of}
+use Rattle.ifx_search.specs.Axes.{AxisData}
+use Rattle.ifx_curves.specs.Tables.{TableData}
 use Rattle.net_model.specs.declared.wires.WireNo.{WireNo}
 use Rattle.net_model.specs.declared.wires.PartNo.{PartNo}
 use Rattle.net_model.specs.declared.wires.Kind.{Kind}
-use Rattle.net_model.specs.declared.wires.Kind.TheVariants.{Num, Truth}
+use Rattle.net_model.specs.declared.wires.Kind.TheVariants.{Num, Truth, Position}
 use Rattle.net_model.specs.declared.wires.Block.{Block}
 use Rattle.net_model.specs.declared.wires.Block.TheVariants.{Average, Pt1, Dt1}
 use Rattle.net_model.specs.declared.wires.Item.{Item}
@@ -16,22 +18,53 @@ use Rattle.net_model.specs.declared.wires.Part.{Part}
 use Rattle.net_model.specs.declared.wires.Wire.{Wire}
 use Rattle.net_model.specs.Families.{held_by, wire_or_first}
 
--- a network: its wires in order, and its output wires in the order of printing
+-- an axis and a table, each with its name
+abbrev pub NamedAxis : Type 0
+NamedAxis = List ℕ × AxisData
+
+abbrev pub NamedTable : Type 0
+NamedTable = List ℕ × TableData
+
+-- a network: its axes and its tables, its wires in order, and its output wires in the order of printing
 pub record NetData : Type 0 where
+  pub axes : List NamedAxis
+  pub tables : List NamedTable
   pub wires : List Wire
   pub outs : List WireNo
 
--- the network without wires
+-- the network without wires and lists
 abbrev pub no_net : NetData
-no_net = record { wires = []; outs = [] }
+no_net = record { axes = []; tables = []; wires = []; outs = [] }
+
+-- a network with one axis more
+abbrev pub with_axis : NetData → NamedAxis → NetData
+with_axis net a = record { axes = net.axes ++ a ∷ []; tables = net.tables; wires = net.wires; outs = net.outs }
+
+-- a network with one table more
+abbrev pub with_table : NetData → NamedTable → NetData
+with_table net t = record { axes = net.axes; tables = net.tables ++ t ∷ []; wires = net.wires; outs = net.outs }
 
 -- a network with one wire more
 abbrev pub with_wire : NetData → Wire → NetData
-with_wire net w = record { wires = net.wires ++ w ∷ []; outs = net.outs }
+with_wire net w = record { axes = net.axes; tables = net.tables; wires = net.wires ++ w ∷ []; outs = net.outs }
 
 -- a network with one output more
 abbrev pub with_out : NetData → WireNo → NetData
-with_out net o = record { wires = net.wires; outs = net.outs ++ o ∷ [] }
+with_out net o = record { axes = net.axes; tables = net.tables; wires = net.wires; outs = net.outs ++ o ∷ [] }
+
+-- the axis and the table that are read where there is none
+abbrev pub no_axis : NamedAxis
+no_axis = ([], record { ty = U8; points = []; spacing = None })
+
+abbrev pub no_table : NamedTable
+no_table = ([], record { ty = U8; values = [] })
+
+-- axis and table number i, from 0
+abbrev pub axis_at : List NamedAxis → ℕ → AxisData
+axis_at axes i = (get_or axes i no_axis).1
+
+abbrev pub table_at : List NamedTable → ℕ → TableData
+table_at tables i = (get_or tables i no_table).1
 
 -- the wire that is read where there is none
 abbrev pub no_wire : Wire
@@ -41,20 +74,27 @@ no_wire = record { name = []; kind = Num U8 0; item = Input (pos 0) (pos 0) }
 abbrev pub wire_at : List Wire → ℕ → Wire
 wire_at wires i = get_or wires i no_wire
 
--- the least value of a kind
-abbrev pub kind_least : Kind → ℤ
-kind_least (Num ty point) = least_of ty
-kind_least Truth = pos 0
+-- the position of an axis's last point
+abbrev pub last_position : AxisData → ℕ
+last_position axis = 65536 * (length axis.points - 1)
+
+-- the least value of a kind, in a network with these axes
+abbrev pub kind_least : List NamedAxis → Kind → ℤ
+kind_least axes (Num ty point) = least_of ty
+kind_least axes Truth = pos 0
+kind_least axes (Position axis) = pos 0
 
 -- the greatest value of a kind
-abbrev pub kind_greatest : Kind → ℤ
-kind_greatest (Num ty point) = greatest_of ty
-kind_greatest Truth = pos 1
+abbrev pub kind_greatest : List NamedAxis → Kind → ℤ
+kind_greatest axes (Num ty point) = greatest_of ty
+kind_greatest axes Truth = pos 1
+kind_greatest axes (Position axis) = pos (last_position (axis_at axes axis))
 
 -- the binary point of a kind, 0 where it has none
 abbrev pub point_of : Kind → ℕ
 point_of (Num ty point) = point
 point_of Truth = 0
+point_of (Position axis) = 0
 
 -- argument number p of a block, from 0, as the number of a wire; behind the last one the first
 abbrev pub argument_of : Block → ℕ → ℕ

@@ -2,18 +2,22 @@
 
 ghost use Rattle.std.specs.Prelude.{◌≡◌, ◌<◌, IfSome, length};
 ghost use Rattle.net_model.specs.BlockForms.{in_range, in_ranges};
-ghost use Rattle.net_model.specs.Wires.{wire_at};
+ghost use Rattle.net_model.specs.Wires.{axis_at, last_position, table_at, wire_at};
+ghost use Rattle.net_model.specs.Families.{list_or_zero};
 ghost use Rattle.net_model.specs.Drafts.{data_of};
-ghost use Rattle.net_model.specs.Validity.{agrees, form_agrees, has_good_numbers, is_built_block, is_good_kind, is_good_source, is_of_sort, item_is_sourced, kind_holds, numbers_fit, reads_earlier, same_kind, wires_agree, wires_earlier};
+ghost use Rattle.net_model.specs.Validity.{agrees, form_agrees, has_good_numbers, is_built_block, is_good_kind, is_number_of, is_good_source, is_axis_of, is_kind_there, is_list, is_of_sort, is_plain, is_position_on, is_position_over, is_table_of, item_is_sourced, kind_holds, lists_agree, numbers_fit, reads_earlier, same_kind, wires_agree, wires_earlier};
 ghost use Rattle.net_model.specs.Faults.{first_unsourced};
 
-use crate::block_forms::{Form, adds_no_number, form_of, repeats_first};
-use crate::families::{is_built, signature_of};
+use crate::block_forms::{Form, adds_no_number, form_in, form_of, repeats_first};
+use crate::families::{is_built, list_or_zero, signature_of};
+use crate::naming::Name;
 use crate::network::Draft;
-use crate::signatures::{Range, Sort};
+use crate::signatures::{ListSort, Range, Sort};
 use crate::wires::{Block, Item, Kind, Wire, WireNo};
 use fx_core::Ty;
 use fx_routines::takes;
+use ifx_curves::Table;
+use ifx_search::Axis;
 
 // The greatest binary point.
 const GREATEST_POINT: u8 = 15;
@@ -42,7 +46,8 @@ fn wires_earlier(i: usize, wires: &[WireNo]) -> bool
 pub fn agrees(draft: &Draft, kind: Kind, block: &Block) -> bool
     ensures { result ≡ agrees (data_of draft.now) kind block.now }
 {
-    form_agrees(draft, kind, &form_of(*block)) && repeats_first(block)
+    let form = form_in(&draft.axes, &draft.tables, *block);
+    form_agrees(draft, kind, &form) && repeats_first(block)
 }
 
 /// Whether the types of a form, of its wires and of the wire that it gives agree.
@@ -50,38 +55,171 @@ pub fn form_agrees(draft: &Draft, kind: Kind, form: &Form) -> bool
     ensures { result ≡ form_agrees (data_of draft.now) kind form.now }
 {
     let signature = signature_of(form.routine, form.types);
+    let lists = form.lists.as_slice();
     takes(form.routine, form.types)
+        && lists_agree(draft, signature.lists.as_slice(), lists)
         && wires_agree(
-            &draft.wires,
+            draft,
+            lists,
             signature.sorts.as_slice(),
             form.wires.as_slice(),
         )
-        && is_of_sort(signature.gives, kind)
+        && is_of_sort(draft, lists, signature.gives, kind)
 }
 
-// Whether there is one wire for each sort, of that sort.
+// Whether there is one list for each sort, of that sort.
 #[tactic(auto, using(crate::proofs::SideBySide::other_count))]
-fn wires_agree(all: &[Wire], sorts: &[Sort], wires: &[WireNo]) -> bool
-    ensures { result ≡ wires_agree all.now sorts.now wires.now }
+fn lists_agree(draft: &Draft, sorts: &[ListSort], lists: &[u32]) -> bool
+    ensures { result ≡ lists_agree (data_of draft.now) lists.now sorts.now lists.now }
 {
-    if sorts.len() != wires.len() {
+    if sorts.len() != lists.len() {
         return false;
     }
     for i in 0..sorts.len() {
-        if !is_of_sort(sorts[i], kind_of(all, wires[i])) {
+        if !is_list(draft, lists, sorts[i], lists[i]) {
             return false;
         }
     }
     true
 }
 
-fn is_of_sort(sort: Sort, kind: Kind) -> bool
-    ensures { result ≡ is_of_sort sort kind }
+fn is_list(draft: &Draft, lists: &[u32], sort: ListSort, list: u32) -> bool
+    ensures { result ≡ is_list (data_of draft.now) lists.now sort list }
 {
-    match (sort, kind) {
-        (Sort::Number(ty), Kind::Num(number, _)) => ty == number,
-        (Sort::Truth, Kind::Truth) => true,
-        _ => false,
+    match sort {
+        ListSort::AxisOf(ty) => is_axis_of(&draft.axes, ty, list),
+        ListSort::TableOf(ty) => is_table_of(&draft.tables, ty, list),
+        ListSort::TableOver(ty, place) => {
+            is_table_of(&draft.tables, ty, list)
+                && points_of(&draft.axes, list_or_zero(lists, place as usize))
+                    == values_of(&draft.tables, list)
+        }
+    }
+}
+
+fn is_axis_of(axes: &[(Name, Axis)], ty: Ty, axis: u32) -> bool
+    ensures { result ≡ is_axis_of axes.now ty axis }
+{
+    match axes.get(axis as usize) {
+        Some(named) => ty == named.1.ty(),
+        None => false,
+    }
+}
+
+fn is_table_of(tables: &[(Name, Table)], ty: Ty, table: u32) -> bool
+    ensures { result ≡ is_table_of tables.now ty table }
+{
+    match tables.get(table as usize) {
+        Some(named) => ty == named.1.ty(),
+        None => false,
+    }
+}
+
+// How many points an axis has, and none where there is no such axis.
+fn points_of(axes: &[(Name, Axis)], axis: u32) -> u32
+    ensures { result ≡ length (axis_at axes.now axis).points }
+{
+    match axes.get(axis as usize) {
+        Some(named) => named.1.len(),
+        None => 0,
+    }
+}
+
+// How many values a table has, likewise.
+fn values_of(tables: &[(Name, Table)], table: u32) -> u32
+    ensures { result ≡ length (table_at tables.now table).values }
+{
+    match tables.get(table as usize) {
+        Some(named) => named.1.len(),
+        None => 0,
+    }
+}
+
+// Whether there is one wire for each sort, of that sort.
+#[tactic(auto, using(crate::proofs::SideBySide::other_count))]
+fn wires_agree(draft: &Draft, lists: &[u32], sorts: &[Sort], wires: &[WireNo]) -> bool
+    ensures { result ≡ wires_agree (data_of draft.now) lists.now sorts.now wires.now }
+{
+    if sorts.len() != wires.len() {
+        return false;
+    }
+    for i in 0..sorts.len() {
+        if !is_of_sort(draft, lists, sorts[i], kind_of(&draft.wires, wires[i])) {
+            return false;
+        }
+    }
+    true
+}
+
+fn is_of_sort(draft: &Draft, lists: &[u32], sort: Sort, kind: Kind) -> bool
+    ensures { result ≡ is_of_sort (data_of draft.now) lists.now sort kind }
+{
+    match sort {
+        Sort::Number(ty) => is_number_of(ty, kind),
+        Sort::Truth => matches!(kind, Kind::Truth),
+        Sort::On(place) => is_position_on(list_or_zero(lists, place as usize), kind),
+        Sort::Over(place) => {
+            let values = values_of(&draft.tables, list_or_zero(lists, place as usize));
+            is_position_over(&draft.axes, values, kind)
+        }
+    }
+}
+
+fn is_number_of(ty: Ty, kind: Kind) -> bool
+    ensures { result ≡ is_number_of ty kind }
+{
+    match kind {
+        Kind::Num(number, _) => ty == number,
+        Kind::Truth | Kind::Position(_) => false,
+    }
+}
+
+fn is_position_on(list: u32, kind: Kind) -> bool
+    ensures { result ≡ is_position_on list kind }
+{
+    match kind {
+        Kind::Position(axis) => axis == list,
+        Kind::Num(..) | Kind::Truth => false,
+    }
+}
+
+// A position on an axis of so many points.
+fn is_position_over(axes: &[(Name, Axis)], points: u32, kind: Kind) -> bool
+    ensures { result ≡ is_position_over axes.now points kind }
+{
+    match kind {
+        Kind::Position(axis) => (axis as usize) < axes.len() && points_of(axes, axis) == points,
+        Kind::Num(..) | Kind::Truth => false,
+    }
+}
+
+/// Whether a kind is a number or a truth value, which recordings and constants have.
+pub fn is_plain(kind: Kind) -> bool
+    ensures { result ≡ is_plain kind }
+{
+    match kind {
+        Kind::Num(..) | Kind::Truth => true,
+        Kind::Position(_) => false,
+    }
+}
+
+/// Whether the axis of a kind is one of these.
+pub fn is_kind_there(axes: &[(Name, Axis)], kind: Kind) -> bool
+    ensures { result ≡ is_kind_there axes.now kind }
+{
+    match kind {
+        Kind::Num(..) | Kind::Truth => true,
+        Kind::Position(axis) => (axis as usize) < axes.len(),
+    }
+}
+
+/// The position of an axis's last point, and 0 where there is no such axis.
+pub fn last_position(axes: &[(Name, Axis)], axis: u32) -> u32
+    ensures { result ≡ last_position (axis_at axes.now axis) }
+{
+    match axes.get(axis as usize) {
+        Some(named) => 65_536 * (named.1.len() - 1),
+        None => 0,
     }
 }
 
@@ -138,7 +276,7 @@ pub fn is_good_kind(kind: Kind) -> bool
 {
     match kind {
         Kind::Num(_, point) => point <= GREATEST_POINT,
-        Kind::Truth => true,
+        Kind::Truth | Kind::Position(_) => true,
     }
 }
 
@@ -179,16 +317,18 @@ fn same_kind(one: Kind, other: Kind) -> bool
             ty == other_ty && point == other_point
         }
         (Kind::Truth, Kind::Truth) => true,
+        (Kind::Position(axis), Kind::Position(other_axis)) => axis == other_axis,
         _ => false,
     }
 }
 
-/// Whether a value lies in the kind.
-pub fn kind_holds(kind: Kind, value: i64) -> bool
-    ensures { result ≡ kind_holds kind value }
+/// Whether a value lies in the kind, in a network with these axes.
+pub fn kind_holds(axes: &[(Name, Axis)], kind: Kind, value: i64) -> bool
+    ensures { result ≡ kind_holds axes.now kind value }
 {
     match kind {
         Kind::Num(ty, _) => ty.holds(value),
         Kind::Truth => 0 <= value && value <= 1,
+        Kind::Position(axis) => 0 <= value && value <= i64::from(last_position(axes, axis)),
     }
 }

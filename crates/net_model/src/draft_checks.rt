@@ -1,22 +1,30 @@
 // The conditions under which a draft is a network, tested in their order.
-ghost use Rattle.std.specs.Prelude.{◌≡◌, ◌<◌, ◌≤◌, ◌*◌, ◌&&◌, [], OnOk, length, int_le, true};
+ghost use Rattle.std.specs.Prelude.{◌≡◌, ◌<◌, ◌≤◌, ◌*◌, ◌&&◌, ◌++◌, [], ◌||◌, bytes_eq, not, take, OnOk, length, int_le, true};
 ghost use Rattle.std.specs.List.{list_any};
 ghost use Rattle.text_words.specs.Names.{is_name};
 ghost use Rattle.net_model.specs.Wires.{is_input, window_sum, wire_at};
-ghost use Rattle.net_model.specs.Validity.{has_ends, is_among, is_built_item, item_agrees, item_in_range, item_reads_earlier, kind_holds};
-ghost use Rattle.net_model.specs.Faults.{are_named, at_wire, ends_tested, has_name, has_room, out_tested, outs_tested, sources_tested, tested, wire_tested, wires_tested};
+ghost use Rattle.net_model.specs.Validity.{AreAxes, AreTables, IsNamedAxis, IsNamedTable, axis_names, has_ends, list_names, table_names, is_among, is_built_item, item_agrees, item_in_range, item_reads_earlier, kind_holds};
+ghost use Rattle.net_model.specs.Faults.{are_named, at_wire, ends_tested, has_name, has_room, is_named, lists_tested, names_tested, out_tested, outs_tested, sources_tested, tested, wire_tested, wires_tested};
+ghost use Rattle.text_words.specs.Steps.{demand};
+ghost use Rattle.net_model.specs.declared.network.NetKind.TheVariants.{Repeated};
 ghost use Rattle.net_model.specs.Drafts.{data_of};
 
 use crate::conditions::{
-    agrees, first_unsourced, has_good_numbers, is_built_block, is_good_kind, kind_holds,
-    reads_earlier,
+    agrees, first_unsourced, has_good_numbers, is_built_block, is_good_kind, is_kind_there,
+    is_plain, kind_holds, reads_earlier,
 };
+use crate::naming::Name;
 use crate::network::{Draft, NetKind};
 use crate::wires::{Item, Kind, Wire, WireNo};
+use ifx_curves::Table;
+use ifx_search::Axis;
 use text_words::demand;
 
 /// How many wires a network may have.
 pub const MOST_WIRES: usize = 512;
+
+/// How many axes a network may have, and how many tables.
+pub const MOST_LISTS: usize = 64;
 
 /// Over how many rows the averages of a network may go together.
 pub const MOST_ROWS: u32 = 65_536;
@@ -35,6 +43,8 @@ pub fn check_draft(draft: &Draft) -> Result<(), Fault>
     ensures value { result ≡ tested (data_of draft.now) }
     ensures few { OnOk result (length draft.now.wires.items ≤ 512) }
     ensures named { OnOk result (are_named draft.now.wires.items ≡ true) }
+    ensures axes { OnOk result (AreAxes draft.now.axes.items) }
+    ensures tables { OnOk result (AreTables draft.now.tables.items) }
 {
     check_wires(draft)?;
     check_sources(&draft.wires)?;
@@ -75,15 +85,12 @@ fn check_wire(draft: &Draft, i: usize) -> Result<(), NetKind>
     ensures named { OnOk result (is_name (wire_at draft.now.wires.items i).name ≡ true) }
 {
     let Wire { name, kind, item } = &draft.wires[i];
-    demand!(
-        !has_name(&draft.wires[..i], name.bytes()),
-        NetKind::Repeated
-    );
+    demand!(!is_taken(draft, i, name.bytes()), NetKind::Repeated);
     demand!(is_built_item(*item), NetKind::NotBuilt);
     demand!(item_reads_earlier(i, *item), NetKind::LaterWire);
     demand!(item_agrees(draft, *kind, *item), NetKind::TypeDiffers);
     demand!(
-        is_good_kind(*kind) && item_in_range(*kind, *item),
+        is_good_kind(*kind) && item_in_range(&draft.axes, *kind, *item),
         NetKind::OutOfRange
     );
     demand(has_room(&draft.wires[..i], *item), NetKind::TooMany)
@@ -117,6 +124,48 @@ fn has_name(wires: &[Wire], name: &[u8]) -> bool
     wires.iter().any(|wire| name == wire.name.bytes())
 }
 
+// An axis, a table or a wire before number `i` has the name.
+fn is_taken(draft: &Draft, i: usize, name: &[u8]) -> bool
+    requires { i < length draft.now.wires.items }
+    ensures { result ≡ (is_named (list_names (data_of draft.now)) name.now || has_name (take i draft.now.wires.items) name.now) }
+{
+    has_list(&draft.axes, &draft.tables, name) || has_name(&draft.wires[..i], name)
+}
+
+// An axis or a table has the name.
+fn has_list(axes: &[(Name, Axis)], tables: &[(Name, Table)], name: &[u8]) -> bool
+    ensures { result ≡ is_named (axis_names axes.now ++ table_names tables.now) name.now }
+{
+    if has_axis(axes, name) {
+        return true;
+    }
+    has_table(tables, name)
+}
+
+fn has_axis(axes: &[(Name, Axis)], name: &[u8]) -> bool
+    ensures { result ≡ is_named (axis_names axes.now) name.now }
+{
+    is_name_of_axis(axes, name)
+}
+
+fn is_name_of_axis(axes: &[(Name, Axis)], name: &[u8]) -> bool
+    ensures { result ≡ list_any (λ a. bytes_eq name.now a.0) axes.now }
+{
+    axes.iter().any(|named| name == named.0.bytes())
+}
+
+fn has_table(tables: &[(Name, Table)], name: &[u8]) -> bool
+    ensures { result ≡ is_named (table_names tables.now) name.now }
+{
+    is_name_of_table(tables, name)
+}
+
+fn is_name_of_table(tables: &[(Name, Table)], name: &[u8]) -> bool
+    ensures { result ≡ list_any (λ t. bytes_eq name.now t.0) tables.now }
+{
+    tables.iter().any(|named| name == named.0.bytes())
+}
+
 fn is_built_item(item: Item) -> bool
     ensures { result ≡ is_built_item item }
 {
@@ -139,27 +188,28 @@ fn item_agrees(draft: &Draft, kind: Kind, item: Item) -> bool
     ensures { result ≡ item_agrees (data_of draft.now) kind item }
 {
     match item {
-        Item::Input { .. } | Item::Const { .. } | Item::Delay { .. } => true,
+        Item::Input { .. } | Item::Const { .. } => is_plain(kind),
+        Item::Delay { .. } => is_kind_there(&draft.axes, kind),
         Item::Block(block) => agrees(draft, kind, &block),
     }
 }
 
-fn item_in_range(kind: Kind, item: Item) -> bool
-    ensures { result ≡ item_in_range kind item }
+fn item_in_range(axes: &[(Name, Axis)], kind: Kind, item: Item) -> bool
+    ensures { result ≡ item_in_range axes.now kind item }
 {
     match item {
-        Item::Input { lo, hi } => is_range(kind, lo, hi),
-        Item::Const { value } => kind_holds(kind, value),
-        Item::Delay { init, .. } => kind_holds(kind, init),
+        Item::Input { lo, hi } => is_range(axes, kind, lo, hi),
+        Item::Const { value } => kind_holds(axes, kind, value),
+        Item::Delay { init, .. } => kind_holds(axes, kind, init),
         Item::Block(block) => has_good_numbers(&block),
     }
 }
 
 /// Whether a range isn't empty and lies in the kind.
-pub fn is_range(kind: Kind, lo: i64, hi: i64) -> bool
-    ensures { result ≡ (kind_holds kind lo && kind_holds kind hi && int_le lo hi) }
+pub fn is_range(axes: &[(Name, Axis)], kind: Kind, lo: i64, hi: i64) -> bool
+    ensures { result ≡ (kind_holds axes.now kind lo && kind_holds axes.now kind hi && int_le lo hi) }
 {
-    kind_holds(kind, lo) && kind_holds(kind, hi) && lo <= hi
+    kind_holds(axes, kind, lo) && kind_holds(axes, kind, hi) && lo <= hi
 }
 
 // The tests of the delays' sources.
@@ -180,10 +230,76 @@ fn check_sources(wires: &[Wire]) -> Result<(), Fault>
 // The tests of no wire.
 #[tactic(auto, unfolding(crate::specs::Faults::ends_tested))]
 fn check_ends(draft: &Draft) -> Result<(), NetKind>
-    ensures { result ≡ ends_tested (data_of draft.now) }
+    ensures value { result ≡ ends_tested (data_of draft.now) }
+    ensures axes { OnOk result (AreAxes draft.now.axes.items) }
+    ensures tables { OnOk result (AreTables draft.now.tables.items) }
 {
+    check_lists(draft)?;
     check_outs(&draft.outs, draft.wires.len())?;
     demand(has_ends(&draft.wires, &draft.outs), NetKind::Missing)
+}
+
+// The tests of the axes and the tables. Both are what they may be, by their types.
+#[tactic(auto, unfolding(crate::specs::Faults::lists_tested))]
+fn check_lists(draft: &Draft) -> Result<(), NetKind>
+    ensures value { result ≡ lists_tested (data_of draft.now) }
+    ensures axes { OnOk result (AreAxes draft.now.axes.items) }
+    ensures tables { OnOk result (AreTables draft.now.tables.items) }
+{
+    check_axes(&draft.axes)?;
+    demand!(draft.axes.len() <= MOST_LISTS, NetKind::TooMany);
+    check_tables(&draft.axes, &draft.tables)?;
+    demand(draft.tables.len() <= MOST_LISTS, NetKind::TooMany)
+}
+
+// The tests of the axes' names.
+#[tactic(auto, unfolding(crate::specs::Faults::names_tested))]
+fn check_axes(axes: &[(Name, Axis)]) -> Result<(), NetKind>
+    ensures value { result ≡ names_tested [] (axis_names axes.now) }
+    ensures axes { OnOk result (AreAxes axes.now) }
+{
+    for i in 0..axes.len() {
+        check_axis(&axes[..i], &axes[i])?;
+    }
+    Ok(())
+}
+
+// One axis, below those above.
+fn check_axis(above: &[(Name, Axis)], named: &(Name, Axis)) -> Result<(), NetKind>
+    ensures value { result ≡ demand (not (is_named (axis_names above.now) named.now.0)) Repeated }
+    ensures axis { IsNamedAxis named.now }
+{
+    let (name, axis) = named;
+    let _points = axis.len();
+    let _spacing = axis.spacing();
+    demand(!has_axis(above, name.bytes()), NetKind::Repeated)
+}
+
+// The tests of the tables' names, below those of the axes.
+#[tactic(auto, unfolding(crate::specs::Faults::names_tested))]
+fn check_tables(axes: &[(Name, Axis)], tables: &[(Name, Table)]) -> Result<(), NetKind>
+    ensures value { result ≡ names_tested (axis_names axes.now) (table_names tables.now) }
+    ensures tables { OnOk result (AreTables tables.now) }
+{
+    for i in 0..tables.len() {
+        check_table(axes, &tables[..i], &tables[i])?;
+    }
+    Ok(())
+}
+
+// One table, below the axes and the tables above.
+fn check_table(
+    axes: &[(Name, Axis)],
+    above: &[(Name, Table)],
+    named: &(Name, Table),
+) -> Result<(), NetKind>
+    ensures value { result ≡ demand (not (is_named (axis_names axes.now ++ table_names above.now) named.now.0)) Repeated }
+    ensures table { IsNamedTable named.now }
+{
+    let (name, table) = named;
+    let _values = table.len();
+    let name = name.bytes();
+    demand(!has_list(axes, above, name), NetKind::Repeated)
 }
 
 #[tactic(auto, unfolding(crate::specs::Faults::outs_tested))]

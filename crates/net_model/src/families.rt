@@ -3,19 +3,20 @@
 ghost use Rattle.std.specs.Prelude.{◌≡◌, [], ◌∷◌, map, pos, true};
 ghost use Rattle.fx_routines.specs.Names.{takes};
 ghost use Rattle.fx_routines.specs.Variants.{types};
-ghost use Rattle.fx_routines.specs.declared.table.Routine.TheVariants.{Filter as NamedFilter};
+ghost use Rattle.fx_routines.specs.declared.table.Routine.TheVariants.{Filter as NamedFilter, Interpolation as NamedInterpolation};
 ghost use Rattle.mfx_arith.specs.Operations.{argument_types, is_smooth_operation, unsigned_of};
 ghost use Rattle.mfx_scaled.specs.Operations.{argument_types as scaled_types};
 ghost use Rattle.net_model.specs.declared.signatures.Sort.TheVariants.{Number};
-ghost use Rattle.net_model.specs.Families.{arith_ranges, block_of, filter_ranges, first_of, gains, held_by, is_built, number_or_zero, signature_of, wire_or_first};
+ghost use Rattle.net_model.specs.declared.signatures.ListSort.TheVariants.{AxisOf, TableOver};
+ghost use Rattle.net_model.specs.Families.{arith_ranges, block_of, filter_ranges, first_of, gains, held_by, is_built, list_or_zero, number_or_zero, signature_of, wire_or_first};
 ghost use Rattle.net_model.specs.BlockForms.{in_range, in_ranges};
 
 use crate::block_forms::Form;
 use crate::rooms::Few;
-use crate::signatures::{Range, Signature, Sort};
+use crate::signatures::{ListSort, Range, Signature, Sort};
 use crate::wires::{Block, WireNo};
 use fx_core::Ty;
-use fx_routines::{ArithOp, FilterOp, Routine, ScaledOp, Types, Variant};
+use fx_routines::{ArithOp, CurveOp, FilterOp, InterpolationOp, Routine, ScaledOp, Types, Variant};
 
 /// Whether the routine is built as a block.
 pub fn is_built(routine: Routine) -> bool
@@ -24,8 +25,18 @@ pub fn is_built(routine: Routine) -> bool
     match routine {
         Routine::Arith(op) => !matches!(op, ArithOp::Mod),
         Routine::Scaled(_) | Routine::Filter(_) => true,
-        Routine::Bit(_) | Routine::Interpolation(_) => false,
-        Routine::Control(_) | Routine::Switch(_) => false,
+        Routine::Interpolation(op) => is_built_interpolation(op),
+        Routine::Bit(_) | Routine::Control(_) | Routine::Switch(_) => false,
+    }
+}
+
+fn is_built_interpolation(op: InterpolationOp) -> bool
+    ensures { result ≡ is_built (NamedInterpolation op) }
+{
+    match op {
+        InterpolationOp::Search => true,
+        InterpolationOp::Curve(op) | InterpolationOp::IntCurve(op) => op == CurveOp::Ipo,
+        InterpolationOp::Map(_) | InterpolationOp::IntMap(_) => false,
     }
 }
 
@@ -56,29 +67,86 @@ pub fn signature_of(routine: Routine, types: Types) -> Signature
     match routine {
         Routine::Arith(op) => Signature {
             sorts: arith_sorts(op, types),
+            lists: no_lists(),
             ranges: arith_ranges(op),
             gives: Sort::Number(types.o),
             smooth: op != ArithOp::Mod,
         },
         Routine::Scaled(op) => Signature {
             sorts: scaled_sorts(op, types),
+            lists: no_lists(),
             ranges: Few::of([NO_RANGE; 4], 0),
             gives: Sort::Number(types.o),
             smooth: true,
         },
         Routine::Filter(op) => Signature {
             sorts: one(types.x),
+            lists: no_lists(),
             ranges: filter_ranges(op),
             gives: Sort::Number(types.o),
             smooth: true,
         },
+        Routine::Interpolation(op) => look_up_signature(op, types),
         _ => Signature {
             sorts: Few::of([Sort::Truth; 4], 0),
+            lists: no_lists(),
             ranges: Few::of([NO_RANGE; 4], 0),
             gives: Sort::Number(types.o),
             smooth: false,
         },
     }
+}
+
+// The signature of an operation on axes, curves and maps.
+#[tactic(auto, unfolding(crate::specs::Families::signature_of))]
+fn look_up_signature(op: InterpolationOp, types: Types) -> Signature
+    ensures { result ≡ signature_of (NamedInterpolation op) types }
+{
+    let ranges = Few::of([NO_RANGE; 4], 0);
+    match op {
+        InterpolationOp::Search => Signature {
+            sorts: one(types.x),
+            lists: Few::of([ListSort::AxisOf(types.x); 4], 1),
+            ranges,
+            gives: Sort::On(0),
+            smooth: true,
+        },
+        InterpolationOp::Curve(op) => Signature {
+            sorts: Few::of([Sort::Over(0); 4], 1),
+            lists: Few::of([ListSort::TableOf(types.o); 4], 1),
+            ranges,
+            gives: Sort::Number(types.o),
+            smooth: op == CurveOp::Ipo,
+        },
+        InterpolationOp::IntCurve(op) => Signature {
+            sorts: one(types.x),
+            lists: axis_and_table(types.x, types.o),
+            ranges,
+            gives: Sort::Number(types.o),
+            smooth: op == CurveOp::Ipo,
+        },
+        InterpolationOp::Map(_) | InterpolationOp::IntMap(_) => Signature {
+            sorts: Few::of([Sort::Truth; 4], 0),
+            lists: no_lists(),
+            ranges,
+            gives: Sort::Number(types.o),
+            smooth: false,
+        },
+    }
+}
+
+fn no_lists() -> Few<ListSort>
+    ensures { result ≡ [] }
+{
+    Few::of([ListSort::AxisOf(Ty::U8); 4], 0)
+}
+
+// An axis, and a table with as many values.
+fn axis_and_table(x: Ty, o: Ty) -> Few<ListSort>
+    ensures { result ≡ AxisOf x ∷ TableOver o 0 ∷ [] }
+{
+    let axis = ListSort::AxisOf(x);
+    Few::of([axis, ListSort::TableOver(o, 0), axis, axis], 2)
 }
 
 fn arith_sorts(op: ArithOp, types: Types) -> Few<Sort>
@@ -182,30 +250,35 @@ pub fn held_by(block: Block) -> Form
             routine: Routine::Arith(op),
             types: v.types(),
             wires: Few::of([x, y, z, x], 3),
+            lists: no_list(),
             numbers: Few::of([i64::from(sh); 4], 1),
         },
         Block::Scaled { op, v, x, y } => Form {
             routine: Routine::Scaled(op),
             types: v.types(),
             wires: Few::of([x, y, x, x], 2),
+            lists: no_list(),
             numbers: Few::of([0; 4], 0),
         },
         Block::Gain { xty, ty, x, k } => Form {
             routine: Routine::Filter(FilterOp::Gain),
             types: filter_types(xty, ty),
             wires: Few::of([x; 4], 1),
+            lists: no_list(),
             numbers: Few::of([i64::from(k); 4], 1),
         },
         Block::Average { xty, ty, x, n } => Form {
             routine: Routine::Filter(FilterOp::Average),
             types: filter_types(xty, ty),
             wires: Few::of([x; 4], 1),
+            lists: no_list(),
             numbers: Few::of([i64::from(n); 4], 1),
         },
         Block::Pt1 { xty, ty, x, teq, k } => Form {
             routine: Routine::Filter(FilterOp::Pt1),
             types: filter_types(xty, ty),
             wires: Few::of([x; 4], 1),
+            lists: no_list(),
             numbers: weight_and_gain(teq, k),
         },
         Block::Dt1 {
@@ -223,8 +296,47 @@ pub fn held_by(block: Block) -> Form
             }),
             types: filter_types(xty, ty),
             wires: Few::of([x; 4], 1),
+            lists: no_list(),
             numbers: weight_and_gain(teq, k),
         },
+        Block::Search { ty, x, axis } => Form {
+            routine: Routine::Interpolation(InterpolationOp::Search),
+            types: one_type(ty),
+            wires: Few::of([x; 4], 1),
+            lists: Few::of([axis; 4], 1),
+            numbers: Few::of([0; 4], 0),
+        },
+        Block::Curve { op, dp, table } => Form {
+            routine: Routine::Interpolation(InterpolationOp::Curve(op)),
+            types: one_type(Ty::U8),
+            wires: Few::of([dp; 4], 1),
+            lists: Few::of([table; 4], 1),
+            numbers: Few::of([0; 4], 0),
+        },
+        Block::IntCurve { op, x, axis, table } => Form {
+            routine: Routine::Interpolation(InterpolationOp::IntCurve(op)),
+            types: one_type(Ty::U8),
+            wires: Few::of([x; 4], 1),
+            lists: Few::of([axis, table, 0, 0], 2),
+            numbers: Few::of([0; 4], 0),
+        },
+    }
+}
+
+fn no_list() -> Few<u32>
+    ensures { result ≡ [] }
+{
+    Few::of([0; 4], 0)
+}
+
+/// One type for all inputs and the output.
+pub fn one_type(ty: Ty) -> Types
+    ensures { result ≡ types ty ty ty }
+{
+    Types {
+        x: ty,
+        y: ty,
+        o: ty,
     }
 }
 
@@ -275,6 +387,7 @@ pub fn block_of(form: &Form) -> Block
             y,
         },
         Routine::Filter(op) => filter_block(op, form.types, x, numbers),
+        Routine::Interpolation(op) => look_up_block(op, form.types, x, form.lists.as_slice()),
         _ => unreachable!(),
     }
 }
@@ -283,7 +396,7 @@ pub fn block_of(form: &Form) -> Block
 #[tactic(auto, unfolding(crate::specs::Families::block_of))]
 fn filter_block(op: FilterOp, types: Types, x: WireNo, numbers: &[i64]) -> Block
     requires { in_ranges (filter_ranges op) numbers.now ≡ true }
-    ensures { result ≡ block_of (record { routine = NamedFilter op; types = types; wires = x ∷ []; numbers = numbers.now }) }
+    ensures { result ≡ block_of (record { routine = NamedFilter op; types = types; wires = x ∷ []; lists = []; numbers = numbers.now }) }
 {
     let xty = types.x;
     let ty = types.o;
@@ -318,6 +431,33 @@ fn filter_block(op: FilterOp, types: Types, x: WireNo, numbers: &[i64]) -> Block
     }
 }
 
+// The block of a look-up.
+#[tactic(auto, unfolding(crate::specs::Families::block_of))]
+fn look_up_block(op: InterpolationOp, types: Types, x: WireNo, lists: &[u32]) -> Block
+    requires { is_built (NamedInterpolation op) ≡ true }
+    ensures { result ≡ block_of (record { routine = NamedInterpolation op; types = types; wires = x ∷ []; lists = lists.now; numbers = [] }) }
+{
+    match op {
+        InterpolationOp::Search => Block::Search {
+            ty: types.x,
+            x,
+            axis: list_or_zero(lists, 0),
+        },
+        InterpolationOp::Curve(op) => Block::Curve {
+            op,
+            dp: x,
+            table: list_or_zero(lists, 0),
+        },
+        InterpolationOp::IntCurve(op) => Block::IntCurve {
+            op,
+            x,
+            axis: list_or_zero(lists, 0),
+            table: list_or_zero(lists, 1),
+        },
+        InterpolationOp::Map(_) | InterpolationOp::IntMap(_) => unreachable!(),
+    }
+}
+
 // A gain, as the integer of its type.
 fn gain_of(number: i64) -> i32
     requires { in_range gains number ≡ true }
@@ -342,6 +482,16 @@ pub fn first_of(wires: &[WireNo]) -> WireNo
     match wires.first() {
         Some(first) => *first,
         None => WireNo(0),
+    }
+}
+
+/// The list of a place, and list 0 where there is none.
+pub fn list_or_zero(lists: &[u32], p: usize) -> u32
+    ensures { result ≡ list_or_zero lists.now p }
+{
+    match lists.get(p) {
+        Some(list) => *list,
+        None => 0,
     }
 }
 

@@ -5,9 +5,12 @@ ghost use Rattle.net_model.specs.Smooth.{IsFirstRough, IsSmooth};
 ghost use Rattle.net_model.specs.declared.network.NetRefusal.TheVariants.{At, OutOfMemory};
 
 use crate::draft_checks::{Fault, check_draft};
+use crate::naming::Name;
 use crate::numbering::{first_parts, input_numbers, name_map, part_list, place_of_role};
 use crate::smoothness::first_rough;
 use crate::wires::{Part, PartNo, Role, Wire, WireNo};
+use ifx_curves::Table;
+use ifx_search::Axis;
 use indexmap::IndexMap;
 use std::alloc::{AllocError, Global};
 use std::marker::Model;
@@ -40,7 +43,7 @@ pub enum NetKind {
     BadNumber,
     /// A number is outside its range or type, or the lower end of a range is above the upper one.
     OutOfRange,
-    /// There are more than 512 wires.
+    /// There are more than 512 wires, 64 axes or 64 tables, or another limit is passed.
     TooMany,
     /// There is no input or no output.
     Missing,
@@ -74,16 +77,20 @@ impl From<Fault> for NetRefusal {
     }
 }
 
-/// What a network is made of, not tested yet.
+/// What a network is made of, not tested yet: axes and tables with their names, wires, and outputs.
 #[derive(Drop)]
 pub struct Draft {
+    pub axes: Vec<(Name, Axis)>,
+    pub tables: Vec<(Name, Table)>,
     pub wires: Vec<Wire>,
     pub outs: Vec<WireNo>,
 }
 
-/// A valid network, seen as its wires and its outputs.
+/// A valid network, seen as its axes and tables, its wires and its outputs.
 #[derive(Drop)]
 pub struct Network {
+    axes: Vec<(Name, Axis)>,
+    tables: Vec<(Name, Table)>,
     wires: Vec<Wire>,
     inputs: Vec<WireNo>,
     outs: Vec<WireNo>,
@@ -100,9 +107,9 @@ impl Model for Network {
 
     ghost Value = { NetData };
 
-    ghost view = { λ n. record { wires = n.wires.items; outs = n.outs.items } };
+    ghost view = { λ n. record { axes = n.axes.items; tables = n.tables.items; wires = n.wires.items; outs = n.outs.items } };
 
-    ghost invariant = { λ n. IsValid (record { wires = n.wires.items; outs = n.outs.items })
+    ghost invariant = { λ n. IsValid (record { axes = n.axes.items; tables = n.tables.items; wires = n.wires.items; outs = n.outs.items })
         × (n.inputs.items ≡ inputs_of n.wires.items)
         × (n.parts.items ≡ parts_of n.wires.items)
         × (n.firsts.items ≡ firsts_from 0 n.wires.items)
@@ -136,6 +143,8 @@ impl Network {
         let firsts = first_parts(alloc, &draft.wires)?;
         let names = name_map(alloc, &draft.wires)?;
         Ok(Network {
+            axes: draft.axes,
+            tables: draft.tables,
             wires: draft.wires,
             inputs,
             outs: draft.outs,
@@ -143,6 +152,22 @@ impl Network {
             firsts,
             names,
         })
+    }
+
+    /// The axes, each with its name, in the order of the network's text.
+    pub fn axes(&self) -> &[(Name, Axis)]
+        ensures axes { result.now ≡ self.now.axes }
+        ensures valid { IsValid self.now }
+    {
+        self.axes.as_slice()
+    }
+
+    /// The tables, likewise.
+    pub fn tables(&self) -> &[(Name, Table)]
+        ensures tables { result.now ≡ self.now.tables }
+        ensures valid { IsValid self.now }
+    {
+        self.tables.as_slice()
     }
 
     /// The wires, in the order of the network's text.

@@ -1,5 +1,6 @@
 use crate::naming::Name;
 use fx_core::Ty;
+use ifx_curves::CurveOp;
 use mfx_arith::{ArithOp, Variant};
 use mfx_scaled::ScaledOp;
 
@@ -11,15 +12,17 @@ pub struct WireNo(pub u32);
 #[derive(Clone, Copy, Debug, PartialEq, Eq)]
 pub struct PartNo(pub u32);
 
-/// What a wire carries: raw counts of a type with a binary point of 0 to 15, or a truth value of 0 or 1.
+/// What a wire carries: raw counts of a type with a binary point of 0 to 15, a truth value of 0 or 1, or a
+/// position on the axis of this number, 65536 for each of its segments.
 #[derive(Clone, Copy, Debug, PartialEq, Eq)]
 pub enum Kind {
     Num(Ty, u8),
     Truth,
+    Position(u32),
 }
 
-/// A block: a routine and the wires that it reads. An argument that a routine doesn't have repeats the
-/// first one.
+/// A block: a routine, the wires that it reads, and the numbers of the axes and tables that it goes over.
+/// An argument that a routine doesn't have repeats the first one.
 #[derive(Clone, Copy, Debug, PartialEq, Eq)]
 pub enum Block {
     /// Mfx arithmetic on raw counts; `sh` is at most 15, and 0 where the routine has no shift.
@@ -71,6 +74,25 @@ pub enum Block {
         x: WireNo,
         teq: u32,
         k: i32,
+    },
+    /// The position of `x`, which is of the type `ty`, on an axis of that type.
+    Search {
+        ty: Ty,
+        x: WireNo,
+        axis: u32,
+    },
+    /// A table's curve at the position `dp`.
+    Curve {
+        op: CurveOp,
+        dp: WireNo,
+        table: u32,
+    },
+    /// A table's curve at the position of `x` on an axis, which isn't rounded.
+    IntCurve {
+        op: CurveOp,
+        x: WireNo,
+        axis: u32,
+        table: u32,
     },
 }
 

@@ -1,9 +1,11 @@
 -- What is printed piece by piece is what is printed at once.
-use Rattle.std.proofs.Common.{◌≡◌, ℕ, ◌<◌, true, length, subst, List, [], ◌∷◌, ◌++◌, refl, sym, ap, ◌∙◌, append_assoc, append-nil, Result, Ok, Err, take, take-suc, get_or, add-one, ◌+◌}
-use Rattle.std.specs.Prelude.{OnOk, map, codes}
+use Rattle.std.proofs.Common.{◌≡◌, ℕ, zero, suc, ◌<◌, ◌≤◌, true, length, subst, List, [], ◌∷◌, ◌++◌, refl, sym, ap, ◌∙◌, append_assoc, append-nil, Result, Ok, Err, take, take-suc, drop, drop-cons, get_or, add-one, ◌+◌, ℤ, pos, arith}
+use Rattle.std.specs.Prelude.{OnOk, map, codes, min}
+use Rattle.std.specs.Fmt.{signed_decimal}
 use Rattle.text_words.specs.Printed.{behind_spaces, spaced, word_lines}
-use Rattle.net_text.specs.Printing.{lines_below, wire_words, out_words, words_printed}
+use Rattle.net_text.specs.Printing.{lines_below, axis_words, table_words, wire_words, out_words, list_words, number_words, words_printed}
 use Rattle.net_model.specs.declared.wires.Wire.{Wire}
+use Rattle.net_model.specs.declared.signatures.ListSort.{ListSort}
 use Rattle.net_model.specs.Wires.{NetData, wire_at}
 use Rattle.net_model.specs.Validity.{item_agrees, IsValid}
 use Rattle.net_model.proofs.ValidityFacts.{good_item-valid}
@@ -13,10 +15,14 @@ behind_spaces_append [] b = refl
 behind_spaces_append (word ∷ a) b =
     ap (λ l. 32 ∷ word ++ l) (behind_spaces_append a b) ∙ ap (λ l. 32 ∷ l) (sym (append_assoc word (behind_spaces a) (behind_spaces b)))
 
--- words that are pushed in two steps
-pub joined_given : {A E : Type 0} (r : Result A E) (old between new : List ℕ) (a b : List (List ℕ)) → between ≡ old ++ behind_spaces a → OnOk r (new ≡ between ++ behind_spaces b) → OnOk r (new ≡ old ++ behind_spaces (a ++ b))
-joined_given (Ok v) old between new a b e h = h ∙ ap (λ l. l ++ behind_spaces b) e ∙ append_assoc old (behind_spaces a) (behind_spaces b) ∙ ap (λ l. old ++ l) (sym (behind_spaces_append a b))
-joined_given (Err f) old between new a b e h = tt
+-- words that are pushed in three steps
+pub joined_thrice : {A E : Type 0} (r : Result A E) (old first second new : List ℕ) (a b c : List (List ℕ)) → first ≡ old ++ behind_spaces a → second ≡ first ++ behind_spaces b → OnOk r (new ≡ second ++ behind_spaces c) → OnOk r (new ≡ old ++ behind_spaces (a ++ (b ++ c)))
+joined_thrice (Ok v) old first second new a b c e f h =
+    h ∙ ap (λ l. l ++ behind_spaces c) (f ∙ ap (λ l. l ++ behind_spaces b) e ∙ append_assoc old (behind_spaces a) (behind_spaces b))
+    ∙ append_assoc old (behind_spaces a ++ behind_spaces b) (behind_spaces c)
+    ∙ ap (λ l. old ++ l) (append_assoc (behind_spaces a) (behind_spaces b) (behind_spaces c)
+    ∙ ap (λ l. behind_spaces a ++ l) (sym (behind_spaces_append b c)) ∙ sym (behind_spaces_append a (b ++ c)))
+joined_thrice (Err f) old first second new a b c e h g = tt
 
 lines_below_append : (a b : List (List (List ℕ))) → lines_below (a ++ b) ≡ lines_below a ++ lines_below b
 lines_below_append [] b = refl
@@ -28,12 +34,6 @@ lines_ended : (first : List (List ℕ)) (lines : List (List (List ℕ))) → spa
 lines_ended first [] = refl
 lines_ended first (words ∷ lines) =
     ap (λ l. spaced first ++ (10 ∷ l)) (append_assoc (spaced words) (lines_below lines) (10 ∷ []) ∙ lines_ended words lines)
-
--- a line, then lines below it in two parts, and the last one's line feed
-lines_joined : (first : List (List ℕ)) (a b : List (List (List ℕ))) → spaced first ++ (lines_below a ++ (lines_below b ++ 10 ∷ [])) ≡ word_lines (first ∷ (a ++ b))
-lines_joined first a b =
-    ap (λ l. spaced first ++ l) (sym (append_assoc (lines_below a) (lines_below b) (10 ∷ [])) ∙ ap (λ l. l ++ 10 ∷ []) (sym (lines_below_append a b)))
-    ∙ lines_ended first (a ++ b)
 
 -- the types of each wire agree
 pub wire_agrees : (net : NetData) (wires : List Wire) (i : ℕ) (w : Wire) → wires ≡ net.wires → IsValid net → i < length wires → w ≡ wire_at wires i → item_agrees net w.kind w.item ≡ true
@@ -53,16 +53,29 @@ pub words_joined : {A E : Type 0} (r : Result A E) (old first second new word lo
 words_joined (Ok v) old first second new word lo hi words e f h = h ∙ word_joined old second word hi (words ++ lo ∷ []) (f ∙ word_joined old first word lo words e)
 words_joined (Err fault) old first second new word lo hi words e f h = tt
 
--- the text of a network, from its four steps
-pub text_joined : (net : NetData) (head wires outs text : List ℕ) → head ≡ codes "net 1" → wires ≡ head ++ lines_below (map (wire_words net.wires) net.wires) → outs ≡ wires ++ lines_below (map (out_words net.wires) net.outs) → text ≡ outs ++ 10 ∷ [] → text ≡ word_lines (words_printed net)
-text_joined net head wires outs text e f g h =
+-- lines below what is there, in four parts, and the last one's line feed
+four_parts : (head : List ℕ) (a b c d : List (List (List ℕ))) → (((head ++ lines_below a) ++ lines_below b) ++ lines_below c) ++ lines_below d ≡ head ++ lines_below (a ++ (b ++ (c ++ d)))
+four_parts head a b c d =
+    append_assoc ((head ++ lines_below a) ++ lines_below b) (lines_below c) (lines_below d)
+    ∙ ap (λ l. ((head ++ lines_below a) ++ lines_below b) ++ l) (sym (lines_below_append c d))
+    ∙ append_assoc (head ++ lines_below a) (lines_below b) (lines_below (c ++ d))
+    ∙ ap (λ l. (head ++ lines_below a) ++ l) (sym (lines_below_append b (c ++ d)))
+    ∙ append_assoc head (lines_below a) (lines_below (b ++ (c ++ d)))
+    ∙ ap (λ l. head ++ l) (sym (lines_below_append a (b ++ (c ++ d))))
+
+-- the text of a network, from its six steps
+pub text_joined : (net : NetData) (head axes tables wires outs text : List ℕ) → head ≡ codes "net 1" → axes ≡ head ++ lines_below (map axis_words net.axes) → tables ≡ axes ++ lines_below (map table_words net.tables)
+    → wires ≡ tables ++ lines_below (map (wire_words net) net.wires) → outs ≡ wires ++ lines_below (map (out_words net.wires) net.outs) → text ≡ outs ++ 10 ∷ [] → text ≡ word_lines (words_printed net)
+text_joined net head axes tables wires outs text e ea et ew eo h =
     let first = codes "net" ∷ codes "1" ∷ [] in
-    let a = map (wire_words net.wires) net.wires in
-    let b = map (out_words net.wires) net.outs in
-    h ∙ ap (λ l. l ++ 10 ∷ []) (g ∙ ap (λ l. l ++ lines_below b) (f ∙ ap (λ l. l ++ lines_below a) e))
-    ∙ append_assoc (spaced first ++ lines_below a) (lines_below b) (10 ∷ [])
-    ∙ append_assoc (spaced first) (lines_below a) (lines_below b ++ 10 ∷ [])
-    ∙ lines_joined first a b
+    let a = map axis_words net.axes in
+    let b = map table_words net.tables in
+    let c = map (wire_words net) net.wires in
+    let d = map (out_words net.wires) net.outs in
+    let below = a ++ (b ++ (c ++ d)) in
+    h ∙ ap (λ l. l ++ 10 ∷ []) (eo ∙ ap (λ l. l ++ lines_below d) (ew ∙ ap (λ l. l ++ lines_below c) (et ∙ ap (λ l. l ++ lines_below b) (ea ∙ ap (λ l. l ++ lines_below a) e))) ∙ four_parts (spaced first) a b c d)
+    ∙ append_assoc (spaced first) (lines_below below) (10 ∷ [])
+    ∙ lines_ended first below
 
 lines_of_more : {A : Type 0} (f : A → List (List ℕ)) (xs : List A) (x : A) → lines_below (map f (xs ++ x ∷ [])) ≡ lines_below (map f xs) ++ 10 ∷ spaced (f x)
 lines_of_more f [] x = ap (λ l. 10 ∷ l) (append-nil (spaced (f x)))
@@ -78,3 +91,24 @@ line_behind f g xs given i x d old so_far new same alike below is e h =
     h ∙ ap (λ k. so_far ++ 10 ∷ spaced (k x)) alike ∙ ap (λ l. l ++ 10 ∷ spaced (f x)) e
     ∙ append_assoc old (lines_below (map f (take i xs))) (10 ∷ spaced (f x))
     ∙ ap (λ l. old ++ l) (sym (ap (λ l. lines_below (map f l)) next ∙ lines_of_more f (take i xs) x))
+
+-- with one more number, what is left behind it makes the same whole
+pub next_number : (whole so_far new : List ℕ) (xs : List ℤ) (i : ℕ) (n : ℤ) → i < length xs → n ≡ get_or xs i (pos 0) → so_far ++ behind_spaces (number_words (drop i xs)) ≡ whole → new ≡ so_far ++ 32 ∷ signed_decimal n → new ++ behind_spaces (number_words (drop (i + 1) xs)) ≡ whole
+next_number whole so_far new xs i n lt is had pushed =
+    let left = behind_spaces (number_words (drop (i + 1) xs)) in
+    let cut : drop i xs ≡ n ∷ drop (i + 1) xs = drop-cons xs i (pos 0) lt ∙ ap (λ m. m ∷ drop (suc i) xs) (sym is) ∙ ap (λ k. n ∷ drop k xs) (sym (add-one i)) in
+    ap (λ l. l ++ left) pushed ∙ append_assoc so_far (32 ∷ signed_decimal n) left ∙ ap (λ l. so_far ++ behind_spaces (number_words l)) (sym cut) ∙ had
+
+-- behind the last sort or the last list there is no name
+pub no_list_left : (net : NetData) (sorts : List ListSort) (lists : List ℕ) (i : ℕ) → min (length sorts) (length lists) ≤ i → list_words net (drop i sorts) (drop i lists) ≡ []
+unfolding list_words
+no_list_left net [] lists zero past = refl
+no_list_left net [] lists (suc i) past = refl
+no_list_left net (s ∷ sorts) [] zero past = refl
+no_list_left net (s ∷ sorts) [] (suc i) past = by (drop i sorts)
+  where
+    by : (left : List ListSort) → list_words net left [] ≡ []
+    by [] = refl
+    by (t ∷ left) = refl
+no_list_left net (s ∷ sorts) (n ∷ lists) zero past = absurd (omega arith)
+no_list_left net (s ∷ sorts) (n ∷ lists) (suc i) past = no_list_left net sorts lists i (omega arith)

@@ -8,10 +8,12 @@ use Rattle.net_model.specs.declared.network.NetKind.{NetKind}
 use Rattle.net_model.specs.declared.network.NetKind.TheVariants.{NoHead, TypeDiffers, Missing}
 use Rattle.net_model.specs.declared.network.Draft.{Draft}
 use Rattle.net_model.specs.declared.wires.Wire.{Wire}
+use Rattle.net_text.specs.declared.content.Content.{Content}
+use Rattle.net_text.specs.declared.content.Content.TheVariants.{OfWire, OfAxis, OfTable}
 use Rattle.net_text.specs.declared.reader.NetFault.{NetFault}
 use Rattle.net_text.specs.declared.reader.NetError.{NetError}
 use Rattle.net_text.specs.declared.reader.NetError.TheVariants.{Fault, OutOfMemory}
-use Rattle.net_model.specs.Wires.{NetData, wire_at, no_net, with_out, with_wire}
+use Rattle.net_model.specs.Wires.{NetData, wire_at, no_net, with_axis, with_out, with_table, with_wire}
 use Rattle.net_model.specs.Drafts.{data_of}
 use Rattle.net_model.specs.Validity.{has_ends}
 use Rattle.net_model.specs.Faults.{first_unsourced}
@@ -23,22 +25,28 @@ use Rattle.net_text.specs.Forms.{out_line, defining_line}
 -- one more output
 unfoldable pub after_out : List (List ℕ) → NetData → List (List ℕ) → Result NetData NetKind
 after_out lines net words = do
-  o ← out_line lines net.wires net.outs words
+  o ← out_line lines net words
   Ok (with_out net o)
 
--- one more wire
+-- a network with one more wire, axis or table of this name
+abbrev pub with_content : NetData → List ℕ → Content → NetData
+with_content net name (OfWire content) = with_wire net (record { name = name; kind = content.kind; item = content.item })
+with_content net name (OfAxis axis) = with_axis net (name, axis)
+with_content net name (OfTable table) = with_table net (name, table)
+
+-- one more wire, axis or table
 unfoldable pub after_definition : List (List ℕ) → NetData → List (List ℕ) → Result NetData NetKind
 after_definition lines net words = do
   content ← defining_line lines net words
-  Ok (with_wire net (record { name = nth words 1; kind = content.kind; item = content.item }))
+  Ok (with_content net (nth words 1) content)
 
 -- the network so far, after a line of these words, of which there is one at least
 unfoldable pub after_line : List (List ℕ) → NetData → List (List ℕ) → Result NetData NetKind
 after_line lines net words =
     if bytes_eq (nth words 0) (codes "out") then after_out lines net words else after_definition lines net words
 
--- how a text of these lines is read: below `net 1` each line is one more wire or output; the tests behind all lines
--- stand below
+-- how a text of these lines is read: below `net 1` each line is one more wire, axis, table or output; the tests behind all
+-- lines stand below
 abbrev pub net_reader : List (List ℕ) → Reader NetData NetKind NetFault
 net_reader lines = record {
   keyword = codes "net";

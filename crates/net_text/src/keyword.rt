@@ -1,6 +1,6 @@
 // The keywords of lines that define a name.
 ghost use Rattle.std.specs.Prelude.{◌≡◌};
-ghost use Rattle.net_text.specs.Names.{keyword_of};
+ghost use Rattle.net_text.specs.Names.{begins, is_keyword, is_of_list, is_of_wire, keyword_of};
 
 use text_words::is_literal;
 
@@ -51,4 +51,45 @@ pub fn keyword_of(word: &[u8]) -> Option<Keyword>
         return Some(Keyword::DelayLine);
     }
     None
+}
+
+/// What a line defines: a wire, or else an axis, a table or a map.
+#[derive(Clone, Copy)]
+pub enum Defined {
+    Wires,
+    Lists,
+}
+
+/// Whether a line that begins with the word defines a name of this sort.
+pub fn begins(sort: Defined, word: &[u8]) -> bool
+    ensures { result ≡ begins sort word.now }
+{
+    is_keyword(sort, keyword_of(word))
+}
+
+fn is_keyword(sort: Defined, keyword: Option<Keyword>) -> bool
+    ensures { result ≡ is_keyword sort keyword }
+{
+    match keyword {
+        Some(keyword) => match sort {
+            Defined::Wires => is_of_wire(keyword),
+            Defined::Lists => is_of_list(keyword),
+        },
+        None => false,
+    }
+}
+
+fn is_of_wire(keyword: Keyword) -> bool
+    ensures { result ≡ is_of_wire keyword }
+{
+    matches!(
+        keyword,
+        Keyword::InLine | Keyword::ConstLine | Keyword::WireLine | Keyword::DelayLine
+    )
+}
+
+fn is_of_list(keyword: Keyword) -> bool
+    ensures { result ≡ is_of_list keyword }
+{
+    !is_of_wire(keyword)
 }

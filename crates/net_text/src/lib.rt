@@ -2,8 +2,10 @@
 // a network, which reads as that network again.
 #![tactic(auto)]
 
+mod content;
 mod keyword;
 mod line_forms;
+mod list_forms;
 mod names;
 mod printing;
 mod reader;

@@ -1,16 +1,22 @@
 // Reads a network's text.
-ghost use Rattle.std.specs.Prelude.{◌≡◌, ◌+◌, ◌<◌, ◌≤◌, ◌^◌, [], List, ℕ, length, codes, true, IfErr, IfOk, Ok, if◌then◌else◌};
+ghost use Rattle.std.specs.Prelude.{◌≡◌, ◌+◌, ◌<◌, ◌^◌, [], List, ℕ, length, codes, true, IfErr, IfOk, Ok, if◌then◌else◌};
 ghost use Rattle.text_words.specs.Lines.{lines_from, lines_of, words_of};
 ghost use Rattle.text_words.specs.Names.{is_name};
-ghost use Rattle.net_model.specs.Wires.{NetData, no_net, with_out, with_wire};
+ghost use Rattle.net_model.specs.Wires.{NetData, no_net, with_axis, with_out, with_table, with_wire};
 ghost use Rattle.net_model.specs.Validity.{IsValid};
 ghost use Rattle.net_model.specs.Drafts.{data_of};
 ghost use Rattle.text_words.specs.Readers.{at_line, behind_line, head_below, read_below, said_by};
-ghost use Rattle.net_text.specs.Names.{AreFirst, names_below, names_of};
-ghost use Rattle.net_text.specs.Text.{GivesDraft, Reads, after_definition, after_out, net_reader, network_of, sources_tested, tested_behind, with_ends};
+ghost use Rattle.net_text.specs.declared.keyword.Defined.TheVariants.{Wires};
+ghost use Rattle.net_text.specs.Forms.{HasPlace};
+ghost use Rattle.net_text.specs.Names.{AreFew, AreFirst, names_below, names_of};
+ghost use Rattle.net_text.specs.Text.{GivesDraft, Reads, after_definition, after_out, net_reader, network_of, sources_tested, tested_behind, with_content, with_ends};
 
-use crate::line_forms::{Content, defining_line, out_line};
+use crate::content::{Content, defining_line};
+use crate::line_forms::{WireContent, out_line};
+use crate::list_forms::LineFault;
 use crate::names::{Above, Names, line_naming};
+use ifx_curves::Table;
+use ifx_search::Axis;
 use net_model::{
     Draft, Name, NameFault, NetKind, Network, Wire, WireNo, first_unsourced, has_ends,
 };
@@ -159,10 +165,12 @@ fn read_below_head<'a>(
 #[tactic(auto, unfolding(text_words::specs::Readers::read_below, text_words::specs::Readers::behind_all))]
 fn read_lines(alloc: Global, names: &Names, head: u32, lines: &[u8]) -> Result<Draft, NetError>
     requires few { head + length lines.now < 2 ^ 32 }
-    requires below { names_below [] (lines_from lines.now) ≡ names_of names.now }
+    requires below { names_below Wires [] (lines_from lines.now) ≡ names_of Wires names.now }
     ensures { GivesDraft (read_below (net_reader names.now) head no_net (lines_from lines.now)) result }
 {
     let mut draft = Draft {
+        axes: Vec::new(alloc),
+        tables: Vec::new(alloc),
         wires: Vec::new(alloc),
         outs: Vec::new(alloc),
     };
@@ -184,10 +192,10 @@ fn behind_line(
     number: u32,
     line: &[u8],
 ) -> Result<Draft, NetError>
-    requires few { length draft.wires.items ≤ 512 }
-    requires first { AreFirst draft.wires.items (names_of names.now) }
+    requires few { AreFew (data_of draft) }
+    requires first { AreFirst draft.wires.items (names_of Wires names.now) }
     ensures value { GivesDraft (at_line (net_reader names.now) number (behind_line (net_reader names.now) (data_of draft) (words_of line.now))) result }
-    ensures few { IfOk result (λ next. length next.wires.items ≤ 512) }
+    ensures few { IfOk result (λ next. AreFew (data_of next)) }
 {
     if count_words(line) == 0 {
         return Ok(draft);
@@ -200,10 +208,10 @@ fn behind_line(
 
 #[tactic(auto, unfolding(crate::specs::Text::after_out))]
 fn after_out(names: &Names, draft: Draft, number: u32, line: &[u8]) -> Result<Draft, NetError>
-    requires few { length draft.wires.items ≤ 512 }
-    requires first { AreFirst draft.wires.items (names_of names.now) }
+    requires few { AreFew (data_of draft) }
+    requires first { AreFirst draft.wires.items (names_of Wires names.now) }
     ensures value { GivesDraft (at_line (net_reader names.now) number (after_out names.now (data_of draft) (words_of line.now))) result }
-    ensures few { IfOk result (λ next. length next.wires.items ≤ 512) }
+    ensures few { IfOk result (λ next. AreFew (data_of next)) }
 {
     match out_line(&Above::new(names, &draft), line) {
         Ok(out) => with_out(draft, out),
@@ -219,14 +227,15 @@ fn after_definition(
     number: u32,
     line: &[u8],
 ) -> Result<Draft, NetError>
-    requires few { length draft.wires.items ≤ 512 }
-    requires first { AreFirst draft.wires.items (names_of names.now) }
+    requires few { AreFew (data_of draft) }
+    requires first { AreFirst draft.wires.items (names_of Wires names.now) }
     ensures value { GivesDraft (at_line (net_reader names.now) number (after_definition names.now (data_of draft) (words_of line.now))) result }
-    ensures few { IfOk result (λ next. length next.wires.items ≤ 512) }
+    ensures few { IfOk result (λ next. AreFew (data_of next)) }
 {
-    match defining_line(&Above::new(names, &draft), line) {
-        Ok(content) => with_wire(alloc, draft, word_at(line, 1), content),
-        Err(kind) => Err(fault_at(number, kind)),
+    match defining_line(alloc, &Above::new(names, &draft), line) {
+        Ok(content) => with_content(alloc, draft, word_at(line, 1), content),
+        Err(LineFault::OfKind(kind)) => Err(fault_at(number, kind)),
+        Err(LineFault::OutOfMemory) => Err(NetError::OutOfMemory),
     }
 }
 
@@ -240,23 +249,58 @@ fn with_out(mut draft: Draft, out: WireNo) -> Result<Draft, NetError>
     }
 }
 
-fn with_wire(
+// One more wire, axis or table.
+fn with_content(
     alloc: Global,
-    mut draft: Draft,
+    draft: Draft,
     name: &[u8],
     content: Content,
 ) -> Result<Draft, NetError>
-    requires { is_name name.now ≡ true }
-    ensures added { IfOk result (λ next. data_of next ≡ with_wire (data_of draft) (record { name = name.now; kind = content.kind; item = content.item })) }
+    requires name { is_name name.now ≡ true }
+    requires few { AreFew (data_of draft) }
+    requires place { HasPlace (data_of draft) content }
+    ensures added { IfOk result (λ next. data_of next ≡ with_content (data_of draft) name.now content) }
+    ensures few { IfOk result (λ next. AreFew (data_of next)) }
     ensures fails { IfErr result (λ fault. fault ≡ NetError.OutOfMemory) }
 {
     let name = named(alloc, name)?;
+    match content {
+        Content::OfWire(content) => with_wire(draft, name, content),
+        Content::OfAxis(axis) => with_axis(draft, name, axis),
+        Content::OfTable(table) => with_table(draft, name, table),
+    }
+}
+
+fn with_wire(mut draft: Draft, name: Name, content: WireContent) -> Result<Draft, NetError>
+    ensures added { IfOk result (λ next. data_of next ≡ with_wire (data_of draft) (record { name = name; kind = content.kind; item = content.item })) }
+    ensures fails { IfErr result (λ fault. fault ≡ NetError.OutOfMemory) }
+{
     let wire = Wire {
         name,
         kind: content.kind,
         item: content.item,
     };
     match draft.wires.push(wire) {
+        Ok(()) => Ok(draft),
+        Err(_) => Err(NetError::OutOfMemory),
+    }
+}
+
+fn with_axis(mut draft: Draft, name: Name, axis: Axis) -> Result<Draft, NetError>
+    ensures added { IfOk result (λ next. data_of next ≡ with_axis (data_of draft) (name, axis)) }
+    ensures fails { IfErr result (λ fault. fault ≡ NetError.OutOfMemory) }
+{
+    match draft.axes.push((name, axis)) {
+        Ok(()) => Ok(draft),
+        Err(_) => Err(NetError::OutOfMemory),
+    }
+}
+
+fn with_table(mut draft: Draft, name: Name, table: Table) -> Result<Draft, NetError>
+    ensures added { IfOk result (λ next. data_of next ≡ with_table (data_of draft) (name, table)) }
+    ensures fails { IfErr result (λ fault. fault ≡ NetError.OutOfMemory) }
+{
+    match draft.tables.push((name, table)) {
         Ok(()) => Ok(draft),
         Err(_) => Err(NetError::OutOfMemory),
     }

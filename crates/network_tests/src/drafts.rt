@@ -73,7 +73,7 @@ fn variant_with(second: Ty) -> Result<Variant, Fail> {
     Ok(Variant::new(Ty::S16, second, Ty::S16).ok_or(NetKind::TypeDiffers)?)
 }
 
-fn add_wire(
+pub(crate) fn add_wire(
     wires: &mut Vec<Wire>,
     alloc: Global,
     name: &[u8],
@@ -110,7 +110,12 @@ fn draft_of(alloc: Global, sum: Sum) -> Result<Draft, Fail> {
     });
     add_wire(&mut wires, alloc, &sum.name, Kind::Num(Ty::S16, 0), s)?;
     let outs = vec![in alloc; WireNo(3); sum.out_count]?;
-    Ok(Draft { wires, outs })
+    Ok(Draft {
+        axes: Vec::new(alloc),
+        tables: Vec::new(alloc),
+        wires,
+        outs,
+    })
 }
 
 fn refusal_of(alloc: Global, sum: Sum) -> Result<Option<NetRefusal>, Fail> {

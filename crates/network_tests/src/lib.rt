@@ -8,6 +8,8 @@ mod certificates;
 #[cfg(test)]
 mod commands;
 #[cfg(test)]
+mod curve_drafts;
+#[cfg(test)]
 mod devices;
 #[cfg(test)]
 mod drafts;

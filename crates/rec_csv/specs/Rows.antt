@@ -9,11 +9,11 @@ use Rattle.rec_csv.specs.declared.columns.Column.{Column}
 use Rattle.rec_csv.specs.Fields.{fields_of_line, field_in, trimmed}
 use Rattle.rec_csv.specs.Headers.{HeaderData}
 
--- the value of an input whose field is this one
+-- the value of an input whose field is this one; no input is a position, so no axis is looked at
 unfoldable pub input_value : Column → List ℕ → Result ℤ RowFault
 input_value column field = do
   value ← ok_or (number_of (trimmed field)) (BadNumber column.wire)
-  _ ← demand (kind_holds column.kind value) (OutOfType column.wire)
+  _ ← demand (kind_holds [] column.kind value) (OutOfType column.wire)
   Ok value
 
 -- the values of inputs, in order

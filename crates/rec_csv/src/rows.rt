@@ -1,5 +1,5 @@
 // The values of a row.
-ghost use Rattle.std.specs.Prelude.{◌≡◌, length, option_map, IfErr, OnOk, Ok};
+ghost use Rattle.std.specs.Prelude.{◌≡◌, [], length, option_map, IfErr, OnOk, Ok};
 ghost use Rattle.csv.specs.Records.{fields_of};
 ghost use Rattle.text_words.specs.Numbers.{held, number_of};
 ghost use Rattle.net_model.specs.Validity.{kind_holds};
@@ -66,10 +66,12 @@ fn trimmed_number(field: &[u8]) -> Option<i64>
 }
 
 fn kind_holds(kind: Kind, value: i64) -> bool
-    ensures { result ≡ kind_holds kind value }
+    ensures { result ≡ kind_holds [] kind value }
 {
     match kind {
         Kind::Num(ty, _) => ty.holds(value),
         Kind::Truth => 0 <= value && value <= 1,
+        // No input is a position, so no axis is looked at, and 0 alone is one.
+        Kind::Position(_) => 0 <= value && value <= 0,
     }
 }

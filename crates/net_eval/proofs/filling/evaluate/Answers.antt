@@ -14,7 +14,7 @@ fill-requires-clause-ready c =
 
 pub hand_over-requires-clause-one_each : goal.hand_over-requires-clause-one_each
 hand_over-requires-clause-one_each c =
-    length-filled c.args.steps.now _ _ c.args.inputs.now _ c.fill.ensures.values c.fill.ensures.states
+    length-filled c.args.net.now c.args.steps.now _ _ c.args.inputs.now _ c.fill.ensures.values c.fill.ensures.states
 
 pub hand_over-requires-clause-there : goal.hand_over-requires-clause-there
 hand_over-requires-clause-there c =
@@ -26,11 +26,11 @@ pick-requires-clause-there c =
 
 pub returns-clause-kept : goal.returns-clause-kept
 returns-clause-kept c =
-    row_kept c.args.net.now c.args.steps.now c.args.handovers.now _ _ c.args.inputs.now c.requires.planned c.requires.typed (row_left c.args.steps.now c.args.handovers.now _ _ _ c.args.inputs.now _ c.fill.ensures.values c.fill.ensures.states c.hand_over.ensures)
+    row_kept c.args.net.now c.args.steps.now c.args.handovers.now _ _ c.args.inputs.now c.requires.planned c.requires.typed (row_left c.args.net.now c.args.steps.now c.args.handovers.now _ _ _ c.args.inputs.now _ c.fill.ensures.values c.fill.ensures.states c.hand_over.ensures)
 
 pub returns-clause-after : goal.returns-clause-after
 returns-clause-after c rows after =
-    row_after c.args.net.now c.args.steps.now c.args.handovers.now _ _ c.args.inputs.now rows c.requires.planned after (row_left c.args.steps.now c.args.handovers.now _ _ _ c.args.inputs.now _ c.fill.ensures.values c.fill.ensures.states c.hand_over.ensures)
+    row_after c.args.net.now c.args.steps.now c.args.handovers.now _ _ c.args.inputs.now rows c.requires.planned after (row_left c.args.net.now c.args.steps.now c.args.handovers.now _ _ _ c.args.inputs.now _ c.fill.ensures.values c.fill.ensures.states c.hand_over.ensures)
 
 pub returns-clause-values : goal.returns-clause-values
 returns-clause-values c rows after =

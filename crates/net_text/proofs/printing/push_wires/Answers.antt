@@ -17,4 +17,4 @@ loop-wire-preserved c =
     let net = c.args.net.now in
     let wires = c.wires-wire-items.result.now in
     let below : c.loop-wire.wire-index < length wires = omega (arith, c.loop-wire-test.true, c.loop-wire.auto.wire-index-end) in
-    line_behind (wire_words net.wires) (wire_words net.wires) net.wires wires c.loop-wire.wire-index c.wire-item.result c.wire-item.result c.args.text.now.items c.loop-wire.text.items c.push_wire.new.text.items c.wires-wire-items.ensures.wires refl below c.wire-item.is c.loop-wire.invariant c.in_ok-push_wire.ensures
+    line_behind (wire_words net) (wire_words net) net.wires wires c.loop-wire.wire-index c.wire-item.result c.wire-item.result c.args.text.now.items c.loop-wire.text.items c.push_wire.new.text.items c.wires-wire-items.ensures.wires refl below c.wire-item.is c.loop-wire.invariant c.in_ok-push_wire.ensures

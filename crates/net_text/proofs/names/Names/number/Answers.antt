@@ -5,4 +5,4 @@ use Rattle.net_text.proofs.names.Names.number.Goals as goal
 
 pub returns-clause-value : goal.returns-clause-value
 returns-clause-value c =
-    rw (← c.self.view_is) (c.get_index_of.ensures.index ∙ position-map (λ k. k.now) (bytes_eq c.args.name.now) c.self.inside.numbers.keys ∙ ap (position (bytes_eq c.args.name.now)) c.self.invariant.0)
+    rw (← c.self.view_is) (c.get_index_of.ensures.index ∙ position-map (λ k. k.now) (bytes_eq c.args.name.now) c.self.inside.wires.keys ∙ ap (position (bytes_eq c.args.name.now)) c.self.invariant.0)
