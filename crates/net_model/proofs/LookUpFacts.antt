@@ -1,6 +1,6 @@
 -- What a valid network keeps of its searches and its curves: the axes and tables are there, and what they are given and give goes with
 -- them.
-use Rattle.std.proofs.Common.{◌≡◌, ℕ, ◌<◌, Bool, true, false, ◌&&◌, [], ◌∷◌, List, length, ◌==◌, nat_lt, refl, sym, ap, subst, true≢false, ltb-true, eqb-true}
+use Rattle.std.proofs.Common.{◌≡◌, ℕ, ◌<◌, true, ◌&&◌, List, length, ◌==◌, nat_lt, refl, sym, ap, subst, true≢false, ltb-true, eqb-true}
 use Rattle.std.proofs.lemmas.Bool.{and_parts}
 use denote.Enum.Bare.{same_true}
 use Rattle.fx_core.specs.contracts.word_type.Ty.{the_type}

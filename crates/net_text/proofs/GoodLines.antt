@@ -32,12 +32,12 @@ use Rattle.net_text.specs.declared.content.Content.TheVariants.{OfWire, OfAxis, 
 use Rattle.net_text.specs.declared.line_forms.Given.{Given}
 use Rattle.net_model.specs.Wires.{NamedAxis, NetData, wire_at, place_of, window_of, window_sum}
 use Rattle.net_model.specs.Families.{is_built, signature_of, block_of}
-use Rattle.net_model.specs.BlockForms.{in_range as is_in_range, in_ranges, signature_in, form_of, form_in, kept_types, typed, untyped, repeats_first, adds_no_number}
-use Rattle.net_model.specs.Validity.{is_among, is_good_kind, is_plain, is_kind_there, kind_holds, is_of_sort, takes_form, wires_earlier, wires_agree, lists_agree, is_list, form_agrees, numbers_fit, is_built_item, item_reads_earlier, item_agrees, item_in_range}
+use Rattle.net_model.specs.BlockForms.{in_range as is_in_range, in_ranges, signature_in, form_of, form_in, kept_types, typed, repeats_first, adds_no_number}
+use Rattle.net_model.specs.Validity.{is_among, is_good_kind, is_plain, is_kind_there, kind_holds, is_of_sort, takes_form, wires_earlier, is_list, form_agrees, numbers_fit, is_built_item, item_reads_earlier, item_agrees, item_in_range}
 use Rattle.net_model.specs.Faults.{has_room}
 use Rattle.net_model.proofs.SideBySide.{same_lengths}
 use Rattle.net_model.proofs.FamilyFacts.{IsFull, block_of_full, typed_back}
-use Rattle.net_model.proofs.ValidityFacts.{AgreesForm, agrees_parts}
+use Rattle.net_model.proofs.ValidityFacts.{agrees_parts}
 use Rattle.fx_core.specs.Types.{width_of}
 use Rattle.fx_core.specs.declared.word_type.Ty.TheVariants.{U8, S8, U16, S16, U32, S32}
 use Rattle.fx_routines.specs.declared.interpolation.InterpolationOp.TheVariants as interpolation

@@ -1,5 +1,5 @@
 -- The numbers of axes and tables that are held in 64 bits pass the tests of a line exactly where those that are written do.
-use Rattle.std.proofs.Common.{◌≡◌, ◌∙◌, ℕ, suc, ◌+◌, ◌*◌, ◌<◌, ◌≤◌, ◌-◌, ◌^◌, List, [], ◌∷◌, map, length, Bool, true, false, not, ◌==◌, ◌&&◌, nat_le, drop, subst, ap, ap₂, sym, refl, ℤ, pos, negsuc, ◌+ℤ◌, ◌-ℤ◌, ◌*ℤ◌, ◌<ℤ◌, ◌≤ℤ◌, int_le, unsigned_abs, Result, Ok, Err, arith}
+use Rattle.std.proofs.Common.{◌≡◌, ◌∙◌, ℕ, ◌^◌, List, [], ◌∷◌, map, length, Bool, true, false, ◌==◌, ◌&&◌, nat_le, drop, subst, ap, ap₂, sym, refl, ℤ, pos, unsigned_abs, Result, Ok, arith}
 use Rattle.std.specs.List.{list_all}
 use Rattle.std.proofs.lemmas.Bool.{and_parts}
 use Rattle.std.proofs.lemmas.Int.{ints}
@@ -9,7 +9,6 @@ use Rattle.text_words.specs.Numbers.{held}
 use Rattle.text_words.specs.Steps.{◌>>=◌, demand}
 use Rattle.fx_core.specs.declared.word_type.Ty.{Ty}
 use Rattle.fx_core.specs.Types.{holds}
-use Rattle.net_model.specs.declared.wires.Kind.TheVariants.{Num}
 use Rattle.net_model.specs.declared.network.NetKind.{NetKind}
 use Rattle.net_model.specs.declared.network.NetKind.TheVariants.{OutOfRange, TooMany}
 use Rattle.net_model.specs.BlockForms.{in_range as is_in_range}
@@ -18,7 +17,7 @@ use Rattle.ifx_curves.specs.Tables.{TableData}
 use Rattle.ifx_search.specs.Axes.{AxisData}
 use Rattle.net_model.specs.Wires.{NetData}
 use Rattle.net_text.specs.declared.list_forms.LineFault.{LineFault}
-use Rattle.net_text.specs.Forms.{GivesLine, list_front, number_written, numbers_written, axis_line, axisstep_line, axisshift_line, table_line, are_values, rises, points_given, values_given, steps, counts, shifts, are_steps, steps_given, shift_given, list_room}
+use Rattle.net_text.specs.Forms.{GivesLine, list_front, number_written, numbers_written, axis_line, axisstep_line, axisshift_line, table_line, are_values, rises, points_given, values_given, steps, counts, shifts, steps_given, shift_given, list_room}
 use Rattle.net_text.proofs.HeldNumbers.{IsShort, in_range-held, held_in_range, holds-held, held_in_type}
 
 -- ---- listed numbers

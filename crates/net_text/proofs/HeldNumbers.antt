@@ -1,5 +1,5 @@
 -- A number that is held in 64 bits passes the tests of a line exactly where the number that is written does.
-use Rattle.std.proofs.Common.{◌≡◌, ◌∙◌, ℕ, ◌<◌, ◌-◌, ◌^◌, List, [], length, Bool, true, false, ◌&&◌, ap₂, sym, refl, ℤ, pos, negsuc, ◌<ℤ◌, ◌≤ℤ◌, int_le, Option, Some, None, option_map, Result, Ok, FitsSigned, w32, arith}
+use Rattle.std.proofs.Common.{◌≡◌, ◌∙◌, ℕ, ◌<◌, ◌-◌, ◌^◌, List, [], Bool, true, false, ◌&&◌, ap₂, sym, refl, ℤ, pos, negsuc, ◌<ℤ◌, ◌≤ℤ◌, int_le, Option, Some, None, option_map, Result, Ok, FitsSigned, w32, arith}
 use Rattle.std.specs.Prelude.{ok_or}
 use Rattle.std.proofs.lemmas.Bool.{and_parts}
 use Rattle.std.proofs.lemmas.Int.{ints}
@@ -19,7 +19,7 @@ use Rattle.net_model.specs.BlockForms.{in_range as is_in_range}
 use Rattle.net_model.specs.Validity.{AreAxes, kind_holds}
 use Rattle.net_model.specs.declared.wires.Kind.TheVariants.{Num, Truth, Position}
 use Rattle.net_model.specs.Wires.{NamedAxis, kind_least, kind_greatest}
-use Rattle.net_model.proofs.HeldKinds.{Ends, kind_ends, within_is}
+use Rattle.net_model.proofs.HeldKinds.{Ends, kind_ends}
 use Rattle.net_text.specs.Forms.{IsShortKind, in_range, input_of, const_of, delay_of, number_in}
 
 -- ---- kinds

@@ -1,10 +1,9 @@
 -- What passes the tests of a line makes an axis or a table.
-use Rattle.std.proofs.Common.{◌≡◌, ◌∙◌, ℕ, zero, suc, ◌+◌, ◌*◌, ◌-◌, ◌<◌, ◌≤◌, List, [], ◌∷◌, length, drop, Bool, true, false, true≢false, not, ◌&&◌, nat_le, nat_lt, cond, leb-true, le-ltb, mul-le-mul, FitsSigned, w64, ◌^◌, ap, ap₂, subst, sym, refl, ℤ, pos, negsuc, ◌+ℤ◌, ◌-ℤ◌, ◌*ℤ◌, ◌<ℤ◌, ◌≤ℤ◌, int_le, unsigned_abs, Option, Some, None, arith}
+use Rattle.std.proofs.Common.{◌≡◌, ◌∙◌, ℕ, zero, suc, ◌+◌, ◌*◌, ◌-◌, ◌<◌, ◌≤◌, List, [], ◌∷◌, length, drop, Bool, true, false, true≢false, not, ◌&&◌, nat_le, nat_lt, cond, leb-true, le-ltb, mul-le-mul, FitsSigned, w64, ◌^◌, ap, ap₂, subst, sym, refl, ℤ, pos, negsuc, ◌+ℤ◌, ◌-ℤ◌, ◌*ℤ◌, ◌<ℤ◌, ◌≤ℤ◌, int_le, unsigned_abs, Some, None, arith}
 use Rattle.std.specs.List.{list_all}
 use Rattle.std.proofs.Math.Nat.{mul-le-mul_right, suc-mul}
 use Rattle.std.proofs.lemmas.List.{length-drop}
 use Rattle.std.proofs.lemmas.Bool.{and_parts}
-use Rattle.std.proofs.lemmas.Bool.Decides.{nat_tests}
 use Rattle.std.proofs.lemmas.Int.{ints, fits_signed_from_abs}
 use Rattle.fx_core.specs.declared.word_type.Ty.{Ty}
 use Rattle.fx_core.specs.declared.word_type.Ty.TheVariants.{U8, S8, U16, S16, U32, S32}
@@ -14,7 +13,7 @@ use Rattle.ifx_search.specs.declared.axis.AxisFault.{AxisFault}
 use Rattle.ifx_search.specs.declared.axis.AxisFault.TheVariants.{TooFew as FewPoints, TooMany as ManyPoints}
 use Rattle.ifx_search.specs.Axes.{IsAxis, axis_fault, fault_at, first_place, is_not_above, is_outside, point_at, stepped_points}
 use Rattle.ifx_search.proofs.Places.{nowhere}
-use Rattle.ifx_search.proofs.Points.{length-stepped_points, point_at-stepped, narrow_size}
+use Rattle.ifx_search.proofs.Points.{length-stepped_points, point_at-stepped}
 use Rattle.ifx_curves.specs.declared.table.TableFault.TheVariants.{TooFew as FewValues, TooMany as ManyValues}
 use Rattle.ifx_curves.specs.Tables.{IsTable, table_fault, value_at, is_outside as is_value_outside, fault_at as value_fault_at}
 use Rattle.net_model.specs.BlockForms.{in_range as is_in_range}

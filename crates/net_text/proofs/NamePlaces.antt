@@ -15,7 +15,7 @@ use Rattle.net_text.specs.declared.keyword.Keyword.{Keyword}
 use Rattle.net_text.specs.declared.keyword.Keyword.TheVariants.{InLine, ConstLine, AxisLine, AxisStepLine, AxisShiftLine, TableLine, MapLine, WireLine, DelayLine}
 use Rattle.net_text.specs.declared.keyword.Defined.{Defined}
 use Rattle.net_text.specs.declared.keyword.Defined.TheVariants.{Wires, Lists}
-use Rattle.net_text.specs.Names.{keyword_of, defines, is_defined, is_defining, is_of_wire, is_of_list, is_keyword, begins, with_name, with_defined, names_below, names_of, AreFirst}
+use Rattle.net_text.specs.Names.{keyword_of, is_defined, is_keyword, begins, with_name, with_defined, names_below, names_of, AreFirst}
 
 -- ---- whether a name is there
 

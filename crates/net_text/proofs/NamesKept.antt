@@ -13,7 +13,7 @@ use Rattle.net_model.specs.declared.network.NetKind.{NetKind}
 use Rattle.net_model.specs.declared.network.NetKind.TheVariants.{BadLine}
 use Rattle.net_model.specs.declared.wires.WireNo.{WireNo}
 use Rattle.net_model.specs.declared.wires.Wire.{Wire}
-use Rattle.net_model.specs.Wires.{NetData, place_of, with_out, with_wire}
+use Rattle.net_model.specs.Wires.{NetData, place_of, with_out}
 use Rattle.net_model.specs.Validity.{wire_names}
 use Rattle.ifx_search.specs.Axes.{AxisData}
 use Rattle.ifx_curves.specs.Tables.{TableData}

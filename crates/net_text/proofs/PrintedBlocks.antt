@@ -1,5 +1,5 @@
 -- A printed form is read as itself: no family is named.
-use Rattle.std.proofs.Common.{◌≡◌, ℕ, zero, suc, ◌≤◌, ◌<◌, ◌+◌, ◌^◌, Bool, true, false, ◌&&◌, ◌||◌, eqb, leb, nat_lt, int_le, List, [], ◌∷◌, ◌++◌, map, length, take, drop, codes, ℤ, pos, negsuc, unsigned_abs, Some, Ok, IsTrue, refl, sym, ap, ap₂, subst, ◌∙◌, arith, ltb-true, leb-true, eq-eqb, le-leb, append-nil, append_assoc, length-append}
+use Rattle.std.proofs.Common.{◌≡◌, ℕ, zero, suc, ◌≤◌, ◌<◌, ◌+◌, ◌^◌, Bool, true, false, ◌||◌, eqb, leb, nat_lt, int_le, List, [], ◌∷◌, ◌++◌, length, take, drop, codes, ℤ, pos, negsuc, unsigned_abs, Some, Ok, refl, sym, ap, subst, ◌∙◌, arith, ltb-true, leb-true, eq-eqb, le-leb, append-nil, append_assoc, length-append}
 use Rattle.std.specs.Fmt.{signed_decimal}
 use Rattle.std.specs.List.{list_all}
 use Rattle.std.proofs.lemmas.Bool.{and_parts, and_from}
@@ -13,7 +13,6 @@ use Rattle.fx_core.specs.declared.word_type.Ty.{Ty}
 use Rattle.net_model.specs.declared.wires.WireNo.{WireNo}
 use Rattle.net_model.specs.declared.wires.Kind.{Kind}
 use Rattle.net_model.specs.declared.wires.Kind.TheVariants.{Num, Truth, Position}
-use Rattle.net_model.specs.declared.wires.Wire.{Wire}
 use Rattle.net_model.specs.declared.wires.Item.TheVariants.{Block as OfBlock}
 use Rattle.net_model.specs.declared.signatures.Sort.{Sort}
 use Rattle.net_model.specs.declared.signatures.Sort.TheVariants.{Number, Truth as TruthSort, On, Over}
@@ -22,15 +21,15 @@ use Rattle.net_model.specs.declared.signatures.ListSort.TheVariants.{AxisOf, Tab
 use Rattle.net_model.specs.declared.signatures.Range.{Range}
 use Rattle.net_model.specs.declared.block_forms.Form.{Form}
 use Rattle.net_model.specs.Families.{is_built, block_of}
-use Rattle.net_model.specs.BlockForms.{both, in_range, in_ranges, signature_in}
-use Rattle.net_model.specs.Wires.{NetData, axis_at, table_at, wire_at}
+use Rattle.net_model.specs.BlockForms.{in_range, in_ranges, signature_in}
+use Rattle.net_model.specs.Wires.{NetData, wire_at}
 use Rattle.net_model.specs.Validity.{AreAxes, is_good_kind, is_kind_there, is_list, is_axis_of, is_table_of, is_of_sort, takes_form, wires_earlier, wires_agree, lists_agree, form_agrees, numbers_fit}
 use Rattle.net_model.specs.Faults.{has_room}
 use Rattle.net_model.proofs.SideBySide.{same_lengths}
 use Rattle.net_model.proofs.FamilyFacts.{is_short, ranges_are_short, reads_some}
 use Rattle.net_text.specs.Forms.{is_above, is_known, fresh, axis_passes, all_pass, wire_named, wires_named, list_named, lists_named, are_numbers, number_in, numbers_in, agreed, given_line, wire_line}
 use Rattle.net_text.specs.Names.{is_defined}
-use Rattle.net_text.specs.Printing.{kind_word, name_of_axis, name_of_table, argument_words, list_word, list_words, number_words, form_words}
+use Rattle.net_text.specs.Printing.{kind_word, name_of_axis, argument_words, list_word, list_words, number_words, form_words}
 use Rattle.net_text.proofs.PrintedKinds.{IsFound, has_name, kind_named-kind_word, is_type-kind_word, axis_passes-kind_word}
 use Rattle.net_text.proofs.PrintedNames.{AreApart, first_wires, above_wire, above_axis, above_table, axes_apart, tables_apart, wires_apart, axis_place-at, table_place-at, place_of-wire_at, wire_at-take}
 use Rattle.net_text.proofs.PrintedForms.{IsNew}

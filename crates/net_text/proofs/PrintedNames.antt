@@ -1,5 +1,5 @@
 -- Among distinct names each is found again: it is new where its line is printed, and known below.
-use Rattle.std.proofs.Common.{◌≡◌, ℕ, zero, suc, ◌+◌, ◌≤◌, ◌<◌, Bool, true, false, not, ◌&&◌, ◌||◌, cond, eqb, List, [], ◌∷◌, ◌++◌, map, length, take, get_or, bytes_eq, Option, Some, is_some, refl, sym, ap, ap₂, subst, ◌∙◌, arith, add-one, take_all, zero-add, append-nil}
+use Rattle.std.proofs.Common.{◌≡◌, ℕ, zero, suc, ◌+◌, ◌≤◌, ◌<◌, Bool, true, false, not, ◌&&◌, ◌||◌, cond, eqb, List, [], ◌∷◌, ◌++◌, length, take, get_or, bytes_eq, Some, is_some, refl, sym, ap, ap₂, ◌∙◌, arith, take_all, zero-add, append-nil}
 use Rattle.std.specs.Prelude.{position}
 use Rattle.std.specs.Cmp.Lexicographic.{nat_list_eq_equiv}
 use Rattle.std.specs.List.{list_any, position_from}

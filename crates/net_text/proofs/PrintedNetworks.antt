@@ -1,5 +1,5 @@
 -- Every line of a valid network's text has good words, and is read again; so is the text.
-use Rattle.std.proofs.Common.{◌≡◌, ℕ, zero, suc, ◌+◌, ◌<◌, ◌≤◌, Bool, true, ◌&&◌, nat_lt, int_le, List, [], ◌∷◌, ◌++◌, map, length, take, get_or, ℤ, Ok, refl, ◌∙◌, arith, ltb-true, lt-ltb, le-leb, leb-true}
+use Rattle.std.proofs.Common.{◌≡◌, ℕ, zero, suc, ◌+◌, ◌<◌, ◌≤◌, true, nat_lt, int_le, List, [], ◌∷◌, ◌++◌, map, length, take, get_or, ℤ, Ok, refl, ◌∙◌, arith, ltb-true, lt-ltb, le-leb, leb-true}
 use Rattle.std.specs.List.{list_all}
 use Rattle.std.proofs.lemmas.Bool.{and_parts, and_from}
 use Rattle.std.proofs.lemmas.List.{length-take-le}

@@ -1,5 +1,5 @@
 -- The printed text of a network is read as the network: line by line, with what stands above each.
-use Rattle.std.proofs.Common.{◌≡◌, ℕ, zero, suc, ◌≤◌, ◌<◌, ◌+◌, ℤ, Bool, true, false, not, ◌&&◌, cond, List, [], ◌∷◌, ◌++◌, map, length, take, drop, get_or, codes, Some, Ok, refl, sym, ap, subst, ◌∙◌, arith, lt-ltb, nat_lt, take_all, drop-cons, take-suc, drop_of_length-le, append-nil}
+use Rattle.std.proofs.Common.{◌≡◌, ℕ, zero, suc, ◌≤◌, ◌<◌, ◌+◌, ℤ, Bool, true, false, not, ◌&&◌, cond, List, [], ◌∷◌, ◌++◌, map, length, take, drop, get_or, codes, Some, Ok, refl, sym, ap, subst, ◌∙◌, arith, lt-ltb, take_all, drop-cons, take-suc, drop_of_length-le, append-nil}
 use Rattle.std.specs.Prelude.{Option, None}
 use Rattle.std.specs.List.{list_all, position_from}
 use Rattle.std.proofs.lemmas.Iterator.Adapters.{position_from-zero}

@@ -1,5 +1,5 @@
 -- The line of a wire is read as the wire.
-use Rattle.std.proofs.Common.{◌≡◌, ℕ, zero, suc, ◌≤◌, ◌<◌, ◌*◌, ◌-◌, ◌^◌, Bool, true, false, ◌&&◌, int_le, eqb, List, [], ◌∷◌, length, take, ℤ, pos, unsigned_abs, Ok, refl, sym, ap, subst, ◌∙◌, arith, nat_lt, ltb-true, eqb-true, true≢false}
+use Rattle.std.proofs.Common.{◌≡◌, ℕ, ◌≤◌, ◌<◌, ◌*◌, ◌-◌, ◌^◌, Bool, true, false, ◌&&◌, int_le, List, [], ◌∷◌, length, take, ℤ, unsigned_abs, Ok, refl, sym, ap, ◌∙◌, arith, nat_lt, ltb-true, eqb-true, true≢false}
 use Rattle.std.specs.Fmt.{signed_decimal}
 use Rattle.std.proofs.lemmas.Bool.{and_parts}
 use Rattle.std.proofs.lemmas.Int.{ints}
@@ -18,18 +18,17 @@ use Rattle.net_model.specs.declared.wires.Block.{Block}
 use Rattle.net_model.specs.declared.wires.Item.{Item}
 use Rattle.net_model.specs.declared.wires.Item.TheVariants.{Input, Const, Delay, Block as OfBlock}
 use Rattle.net_model.specs.declared.signatures.ListSort.TheVariants.{AxisOf}
-use Rattle.net_model.specs.declared.block_forms.Form.{Form}
-use Rattle.net_model.specs.Families.{list_or_zero, signature_of, block_of}
-use Rattle.net_model.specs.BlockForms.{form_of, form_in, in_ranges, signature_in, types_over}
+use Rattle.net_model.specs.Families.{list_or_zero, signature_of}
+use Rattle.net_model.specs.BlockForms.{form_of, form_in, in_ranges, types_over}
 use Rattle.net_model.specs.Wires.{NamedAxis, NetData, axis_at, wire_at, with_wire, kind_least, kind_greatest}
 use Rattle.net_model.specs.Faults.{has_room}
-use Rattle.net_model.specs.Validity.{AreAxes, is_good_kind, is_kind_there, is_axis_of, is_number_of, is_plain, is_position_on, is_of_sort, lists_agree, kind_holds, is_built_item, item_reads_earlier, item_agrees, item_in_range, item_is_sourced, numbers_fit, same_kind, wire_names}
+use Rattle.net_model.specs.Validity.{AreAxes, is_kind_there, is_axis_of, is_number_of, is_plain, is_position_on, is_of_sort, lists_agree, kind_holds, item_is_sourced, same_kind, wire_names}
 use Rattle.net_model.proofs.FamilyFacts.{block_back_in}
 use Rattle.net_model.proofs.HeldKinds.{few_points}
 use Rattle.net_model.proofs.ValidityFacts.{IsGoodBlock, IsGoodWire, good_block}
 use Rattle.net_text.specs.declared.keyword.Defined.TheVariants.{Wires}
 use Rattle.net_text.specs.Forms.{line_of, defining_line, wire_line}
-use Rattle.net_text.specs.Names.{keyword_of, names_of, is_defined}
+use Rattle.net_text.specs.Names.{keyword_of, names_of}
 use Rattle.net_text.specs.Text.{after_definition, after_line}
 use Rattle.net_text.specs.Printing.{kind_word, wire_words}
 use Rattle.net_text.proofs.PrintedKinds.{kind_of-kind_word, kind_named-kind_word, has_name, is_type-kind_word}

@@ -1,6 +1,6 @@
 -- Whatever a text says is valid.
 use Rattle.std.proofs.Common.{◌≡◌, ℕ, zero, suc, ◌+◌, ◌<◌, ◌≤◌, Bool, true, false, not, true≢false, ◌&&◌, ◌||◌, ◌==◌, cond, nat_le, nat_lt, List, [], ◌∷◌, ◌++◌, map, length, get_or, int_le, codes, bytes_eq, refl, sym, ap, ap₂, subst, ◌∙◌, ℤ, pos, Result, Ok, Err, arith, length-append, append-nil, append_assoc, zero-add, add-zero}
-use Rattle.std.specs.Prelude.{Option, Some, None, is_some}
+use Rattle.std.specs.Prelude.{Option, Some, None}
 use Rattle.std.specs.List.{list_any, list_all, position_from}
 use Rattle.std.proofs.lemmas.Iterator.Adapters.{position_from-zero}
 use Rattle.std.proofs.Math.ListN.{get_or-append}
@@ -36,11 +36,10 @@ use Rattle.net_model.specs.Families.{list_or_zero, signature_of}
 use Rattle.net_model.specs.Faults.{first_unsourced, is_named}
 use Rattle.net_model.specs.declared.signatures.Sort.{Sort}
 use Rattle.net_model.specs.declared.signatures.Sort.TheVariants.{Number}
-use Rattle.net_model.specs.declared.signatures.ListSort.{ListSort}
 use Rattle.net_model.specs.declared.signatures.ListSort.TheVariants.{AxisOf, TableOf, TableOver}
 use Rattle.net_model.specs.declared.block_forms.Form.{Form}
-use Rattle.net_model.specs.BlockForms.{both, form_of, form_in, signature_in, repeats_first, types_over}
-use Rattle.net_model.specs.Validity.{AreAxes, AreTables, IsNamedAxis, IsNamedTable, axis_names, table_names, wire_names, list_names, is_of_sort, is_axis_of, is_table_of, is_list, is_position_over, is_plain, is_kind_there, kind_holds, takes_form, wires_earlier, wires_agree, lists_agree, form_agrees, is_built_item, item_reads_earlier, item_agrees, item_in_range, is_sourced, is_good_wire, is_good_kind, are_good_from, are_distinct, is_among, are_distinct_outs, has_ends, is_valid, IsValid}
+use Rattle.net_model.specs.BlockForms.{both, form_of, form_in, repeats_first, types_over}
+use Rattle.net_model.specs.Validity.{AreAxes, AreTables, IsNamedAxis, IsNamedTable, axis_names, table_names, wire_names, list_names, is_of_sort, is_axis_of, is_table_of, is_list, is_position_over, is_kind_there, kind_holds, takes_form, wires_earlier, wires_agree, lists_agree, form_agrees, is_built_item, item_reads_earlier, item_agrees, item_in_range, is_sourced, is_good_wire, is_good_kind, are_good_from, are_distinct, is_among, are_distinct_outs, has_ends, is_valid, IsValid}
 use Rattle.net_model.proofs.DraftLemmas.{bytes_eq_comm}
 use Rattle.net_model.proofs.ListNames.{named_axis, named_table, named_both}
 use Rattle.net_model.proofs.ValidityFacts.{agrees_parts}
@@ -50,7 +49,6 @@ use Rattle.text_words.proofs.ReaderSteps.{kept_by_text}
 use Rattle.net_text.specs.Names.{axis_place, table_place}
 use Rattle.net_text.specs.Forms.{is_above, is_axis, is_table, is_wire, out_line, defining_line}
 use Rattle.net_text.specs.Text.{with_content, after_out, after_definition, after_line, net_reader, unsourced_at, sources_tested, with_ends, tested_behind, network_of}
-use Rattle.net_text.proofs.NamePlaces.{list_any-map}
 use Rattle.net_text.proofs.NamesKept.{fresh_name, none_of_three}
 use Rattle.net_text.proofs.GoodLines.{IsGood, IsGoodAxis, IsGoodTable, IsGoodContent, IsGoodOut, is_some-position, definition_good, output_line_good, true_if_both, first_of_both, second_of_both, demand_ok, bind_ok, same_ok, plain_there}
 

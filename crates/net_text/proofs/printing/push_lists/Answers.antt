@@ -1,4 +1,4 @@
-use Rattle.std.proofs.Common.{◌++◌, [], drop, sym, ap, ◌∙◌, append-nil, arith}
+use Rattle.std.proofs.Common.{◌++◌, sym, ap, ◌∙◌, append-nil, arith}
 use Rattle.text_words.specs.Printed.{behind_spaces}
 use Rattle.net_text.proofs.PrintedPieces.{no_list_left}
 use Rattle.net_text.proofs.printing.push_lists.Goals as goal
