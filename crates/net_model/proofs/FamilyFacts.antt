@@ -559,6 +559,19 @@ pub typed_back : (net : NetData) (form : Form) → takes form.routine form.types
 typed_back net form taken agree =
     ap (λ v. of form.routine v form.wires form.lists form.numbers) (types_back net form.routine form.types form.lists taken agree)
 
+-- the ranges of a routine's numbers don't hang on the types that its lists tell
+pub ranges_kept : (routine : Routine) (v : Types) → (signature_of routine (kept_types routine v)).ranges ≡ (signature_of routine v).ranges
+unfolding signature_of
+ranges_kept (NamedInterpolation (interpolation.Curve op)) v = refl
+ranges_kept (NamedInterpolation (interpolation.IntCurve op)) v = refl
+ranges_kept other v = refl
+
+pub ranges_over : (net : NetData) (routine : Routine) (v : Types) (lists : List ℕ) → (signature_of routine (types_over net.axes net.tables routine v lists)).ranges ≡ (signature_of routine v).ranges
+unfolding signature_of
+ranges_over net (NamedInterpolation (interpolation.Curve op)) v lists = refl
+ranges_over net (NamedInterpolation (interpolation.IntCurve op)) v lists = refl
+ranges_over net other v lists = refl
+
 -- the block of a form doesn't look at the types that its lists tell
 block_typed : (axes : List NamedAxis) (tables : List NamedTable) (routine : Routine) (v : Types) (wires : List WireNo) (lists : List ℕ) (numbers : List ℤ)
     → block_of (of routine (types_over axes tables routine v lists) wires lists numbers) ≡ block_of (of routine v wires lists numbers)

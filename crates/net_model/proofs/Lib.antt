@@ -6,6 +6,7 @@ mod NameLemmas
 pub mod FamilyFacts
 pub mod ValidityFacts
 pub mod LookUpFacts
+pub mod NetworksGoOn
 pub mod TestedDrafts
 pub mod HeldKinds
 pub mod SideBySide

@@ -1,11 +1,15 @@
 -- What a valid network keeps of its searches and its curves: the axes and tables are there, and what they are given and give goes with
 -- them.
-use Rattle.std.proofs.Common.{◌≡◌, ℕ, ◌<◌, true, ◌&&◌, List, length, ◌==◌, nat_lt, refl, sym, ap, subst, true≢false, ltb-true, eqb-true}
+use Rattle.std.proofs.Common.{◌≡◌, ℕ, ◌<◌, true, false, ◌&&◌, List, [], ◌∷◌, length, ◌==◌, nat_lt, refl, sym, ap, subst, ◌∙◌, true≢false, ltb-true, eqb-true}
 use Rattle.std.proofs.lemmas.Bool.{and_parts}
 use denote.Enum.Bare.{same_true}
 use Rattle.fx_core.specs.contracts.word_type.Ty.{the_type}
 use Rattle.fx_core.specs.declared.word_type.Ty.{Ty}
 use Rattle.fx_routines.specs.declared.interpolation.CurveOp.{CurveOp}
+use Rattle.fx_routines.specs.declared.interpolation.InterpolationOp.TheVariants as interpolation
+use Rattle.fx_routines.specs.declared.operation.Types.{Types}
+use Rattle.fx_routines.specs.declared.table.Routine.{Routine}
+use Rattle.fx_routines.specs.declared.table.Routine.TheVariants.{Interpolation as NamedInterpolation}
 use Rattle.fx_routines.specs.Variants.{same_type}
 use Rattle.ifx_search.specs.Axes.{IsAxis}
 use Rattle.ifx_curves.specs.Tables.{IsTable}
@@ -13,12 +17,14 @@ use Rattle.net_model.specs.declared.wires.WireNo.{WireNo}
 use Rattle.net_model.specs.declared.wires.Kind.{Kind}
 use Rattle.net_model.specs.declared.wires.Kind.TheVariants.{Num, Truth, Position}
 use Rattle.net_model.specs.declared.wires.Block.TheVariants.{Search, Curve, IntCurve}
-use Rattle.net_model.specs.declared.wires.Item.TheVariants.{Block as OfBlock}
+use Rattle.net_model.specs.declared.wires.Item.{Item}
+use Rattle.net_model.specs.declared.wires.Item.TheVariants.{Input, Const, Delay, Block as OfBlock}
+use Rattle.net_model.specs.declared.signatures.ListSort.TheVariants.{AxisOf}
 use Rattle.net_model.specs.Wires.{NamedAxis, NamedTable, NetData, axis_at, table_at, wire_at}
-use Rattle.net_model.specs.Families.{signature_of}
-use Rattle.net_model.specs.BlockForms.{form_of}
-use Rattle.net_model.specs.Validity.{IsValid, is_axis_of, is_number_of, is_position_on, is_position_over, is_table_of}
-use Rattle.net_model.proofs.ValidityFacts.{IsGoodBlock, block-valid}
+use Rattle.net_model.specs.Families.{list_or_zero, signature_of}
+use Rattle.net_model.specs.BlockForms.{form_in, form_of}
+use Rattle.net_model.specs.Validity.{IsValid, is_axis_of, is_kind_there, is_number_of, is_of_sort, is_plain, lists_agree, is_position_on, is_position_over, is_table_of}
+use Rattle.net_model.proofs.ValidityFacts.{IsGoodBlock, IsGoodWire, good_block, block-valid}
 
 -- ---- axes and tables
 
@@ -63,6 +69,47 @@ position_over axes n Truth h = absurd (true≢false (sym h))
 position_over axes n (Position axis) h =
     let p = and_parts (nat_lt axis (length axes)) (length (axis_at axes axis).points == n) h in
     record { axis = axis; same = refl; there = ltb-true _ _ p.0; long = eqb-true _ _ p.1 }
+
+-- ---- the axis of each kind is there
+
+-- a number or a truth value needs none
+pub plain_there : (axes : List NamedAxis) (kind : Kind) → is_plain kind ≡ true → is_kind_there axes kind ≡ true
+plain_there axes (Num ty point) h = refl
+plain_there axes Truth h = refl
+plain_there axes (Position axis) h = absurd (true≢false (sym h))
+
+no_position : (axes : List NamedAxis) (ty : Ty) (kind : Kind) → is_number_of ty kind ≡ true → is_kind_there axes kind ≡ true
+no_position axes ty (Num t point) h = refl
+no_position axes ty Truth h = refl
+no_position axes ty (Position axis) h = absurd (true≢false (sym h))
+
+-- a position that is given on the one list is on an axis
+on_axis : (net : NetData) (ty : Ty) (lists : List ℕ) (kind : Kind) → lists_agree net lists (AxisOf ty ∷ []) lists ≡ true → is_position_on (list_or_zero lists 0) kind ≡ true → is_kind_there net.axes kind ≡ true
+on_axis net ty [] kind agree h = absurd (true≢false (sym agree))
+on_axis net ty (n ∷ m ∷ lists) kind agree h = absurd (true≢false (sym (and_parts (is_axis_of net.axes ty n) false agree).1))
+on_axis net ty (n ∷ []) (Num t point) agree h = refl
+on_axis net ty (n ∷ []) Truth agree h = refl
+on_axis net ty (n ∷ []) (Position axis) agree h =
+    let same : axis ≡ n = eqb-true axis n h in
+    let given = (and_parts (is_axis_of net.axes ty n) true agree).0 in
+    ap (λ k. nat_lt k (length net.axes)) same ∙ (and_parts (nat_lt n (length net.axes)) (same_type ty (axis_at net.axes n).ty) given).0
+
+given_there : (net : NetData) (routine : Routine) (v : Types) (lists : List ℕ) (kind : Kind) → lists_agree net lists (signature_of routine v).lists lists ≡ true → is_of_sort net lists (signature_of routine v).gives kind ≡ true → is_kind_there net.axes kind ≡ true
+unfolding signature_of
+given_there net (NamedInterpolation interpolation.Search) v lists kind agree h = on_axis net v.x lists kind agree h
+given_there net (NamedInterpolation (interpolation.Curve op)) v lists kind agree h = no_position net.axes v.o kind h
+given_there net (NamedInterpolation (interpolation.IntCurve op)) v lists kind agree h = no_position net.axes v.o kind h
+given_there net other v lists kind agree h = no_position net.axes v.o kind h
+
+-- so is that of each good wire
+pub kind_there : {net : NetData} {i : ℕ} {name : List ℕ} {kind : Kind} (item : Item) → IsGoodWire net i name kind item → is_kind_there net.axes kind ≡ true
+kind_there {net} {i} {name} {kind} (Input lo hi) is = plain_there net.axes kind is.agreed
+kind_there {net} {i} {name} {kind} (Const value) is = plain_there net.axes kind is.agreed
+kind_there {net} {i} {name} {kind} (Delay init source) is = is.agreed
+kind_there {net} {i} {name} {kind} (OfBlock b) is =
+    let good = good_block net i name kind b is in
+    let form = form_in net b in
+    given_there net form.routine form.types form.lists kind good.lists good.gives
 
 -- ---- the search
 

@@ -32,16 +32,15 @@ use Rattle.net_text.specs.declared.content.Content.TheVariants.{OfWire, OfAxis, 
 use Rattle.net_text.specs.declared.line_forms.Given.{Given}
 use Rattle.net_model.specs.Wires.{NamedAxis, NetData, wire_at, place_of, window_of, window_sum}
 use Rattle.net_model.specs.Families.{is_built, signature_of, block_of}
-use Rattle.net_model.specs.BlockForms.{in_range as is_in_range, in_ranges, signature_in, form_of, form_in, kept_types, typed, repeats_first, adds_no_number}
+use Rattle.net_model.specs.BlockForms.{in_range as is_in_range, in_ranges, signature_in, form_of, form_in, typed, repeats_first, adds_no_number}
 use Rattle.net_model.specs.Validity.{is_among, is_good_kind, is_plain, is_kind_there, kind_holds, is_of_sort, takes_form, wires_earlier, is_list, form_agrees, numbers_fit, is_built_item, item_reads_earlier, item_agrees, item_in_range}
 use Rattle.net_model.specs.Faults.{has_room}
 use Rattle.net_model.proofs.SideBySide.{same_lengths}
-use Rattle.net_model.proofs.FamilyFacts.{IsFull, block_of_full, typed_back}
+use Rattle.net_model.proofs.FamilyFacts.{IsFull, block_of_full, typed_back, ranges_kept}
+use Rattle.net_model.proofs.LookUpFacts.{plain_there}
 use Rattle.net_model.proofs.ValidityFacts.{agrees_parts}
 use Rattle.fx_core.specs.Types.{width_of}
 use Rattle.fx_core.specs.declared.word_type.Ty.TheVariants.{U8, S8, U16, S16, U32, S32}
-use Rattle.fx_routines.specs.declared.interpolation.InterpolationOp.TheVariants as interpolation
-use Rattle.fx_routines.specs.declared.table.Routine.TheVariants.{Interpolation as NamedInterpolation}
 use Rattle.ifx_search.specs.Axes.{AxisData, IsAxis, IsSpaced, listed_axis, stepped_axis, stepped_points}
 use Rattle.ifx_search.proofs.Points.{length-stepped_points}
 use Rattle.ifx_curves.specs.Tables.{TableData, IsTable}
@@ -188,11 +187,6 @@ pub kind_plain : (word : List ℕ) (kind : Kind) → kind_of word ≡ Some kind 
 unfolding kind_of number_kind_of
 kind_plain word kind h =
     bool_or_plain (bytes_eq word (codes "bool")) (option_and_then (λ t. option_map (λ p. Num t p) (point_of_word (drop (ty_len word) word))) (ty_of (take (ty_len word) word))) kind (λ k e. num_plain (ty_of (take (ty_len word) word)) (point_of_word (drop (ty_len word) word)) k e) h
-
-pub plain_there : (axes : List NamedAxis) (kind : Kind) → is_plain kind ≡ true → is_kind_there axes kind ≡ true
-plain_there axes (Num ty point) h = refl
-plain_there axes Truth h = refl
-plain_there axes (Position axis) h = cc
 
 -- so is the kind that a type word names, or it is a position on an axis above
 record IsThere (axes : List NamedAxis) (kind : Kind) : Type 0 where
@@ -464,13 +458,6 @@ given_good lines net routine types words given h =
 -- a form's types are its routine's
 takes_given : (net : NetData) (kind : Kind) (form : Form) → form_agrees net kind form ≡ true → takes_form form ≡ true
 takes_given net kind form h = (agrees_parts net kind form h).taken
-
--- the ranges of a routine don't go by the types that a block keeps
-ranges_kept : (routine : Routine) (types : Types) → (signature_of routine (kept_types routine types)).ranges ≡ (signature_of routine types).ranges
-unfolding signature_of
-ranges_kept (NamedInterpolation (interpolation.Curve op)) types = refl
-ranges_kept (NamedInterpolation (interpolation.IntCurve op)) types = refl
-ranges_kept other types = refl
 
 -- the block of a form that passes the tests is good
 block_good : (net : NetData) (kind : Kind) (form : Form) → is_built form.routine ≡ true → wires_earlier (length net.wires) form.wires ≡ true → form_agrees net kind form ≡ true → numbers_fit form ≡ true → IsGoodItem net kind (OfBlock (block_of form))

@@ -21,6 +21,7 @@ use Rattle.net_model.specs.Wires.{NetData, no_axis, no_table, no_wire, wire_at, 
 use Rattle.net_model.specs.Faults.{has_room}
 use Rattle.net_model.specs.Validity.{AreAxes, AreTables, is_list, is_table_of, lists_agree, kind_holds, wires_earlier, same_kind, is_sourced, IsValid}
 use Rattle.net_model.proofs.FamilyFacts.{is_short, ranges_are_short}
+use Rattle.net_model.proofs.LookUpFacts.{kind_there}
 use Rattle.net_model.proofs.ValidityFacts.{IsGoodWire, conditions, length-valid, rows-valid, good_item-valid, good_block}
 use Rattle.net_text.specs.Text.{network_of}
 use Rattle.net_text.specs.Printing.{kind_word, name_of_axis, name_of_table, argument_words, list_word, list_words, number_words, form_words, axis_words, table_words, wire_words, out_words, text_of}
@@ -28,7 +29,7 @@ use Rattle.net_text.proofs.PrintedKinds.{has_name, is_word-kind_word}
 use Rattle.net_text.proofs.PrintedLists.{axis_words_good, table_words_good}
 use Rattle.net_text.proofs.PrintedBlocks.{IsGoodForm, axis_within, table_within, found_kind, size_in_range}
 use Rattle.net_text.proofs.PrintedNames.{AreApart}
-use Rattle.net_text.proofs.PrintedWires.{IsPrintable, good_form, all_three, kind_holds-short, kind_there}
+use Rattle.net_text.proofs.PrintedWires.{IsPrintable, good_form, all_three, kind_holds-short}
 use Rattle.net_text.proofs.PrintedRoutines.{is_word-routine_name}
 use Rattle.net_text.proofs.PrintedText.{AreReadable, AreOutputs, IsReadable, no_out, network_of-text_of}
 

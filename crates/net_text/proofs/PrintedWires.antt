@@ -1,30 +1,23 @@
 -- The line of a wire is read as the wire.
-use Rattle.std.proofs.Common.{◌≡◌, ℕ, ◌≤◌, ◌<◌, ◌*◌, ◌-◌, ◌^◌, Bool, true, false, ◌&&◌, int_le, List, [], ◌∷◌, length, take, ℤ, unsigned_abs, Ok, refl, sym, ap, ◌∙◌, arith, nat_lt, ltb-true, eqb-true, true≢false}
+use Rattle.std.proofs.Common.{◌≡◌, ℕ, ◌≤◌, ◌<◌, ◌*◌, ◌-◌, ◌^◌, Bool, true, ◌&&◌, int_le, List, length, take, ℤ, unsigned_abs, Ok, ap, ◌∙◌, arith, nat_lt, ltb-true}
 use Rattle.std.specs.Fmt.{signed_decimal}
 use Rattle.std.proofs.lemmas.Bool.{and_parts}
 use Rattle.std.proofs.lemmas.Int.{ints}
 use Rattle.text_words.proofs.PrintedNumbers.{number_of-signed_decimal}
-use Rattle.fx_core.specs.declared.word_type.Ty.{Ty}
 use Rattle.fx_core.specs.declared.word_type.Ty.TheVariants.{U8, S8, U16, S16, U32, S32}
-use Rattle.fx_routines.specs.declared.operation.Types.{Types}
-use Rattle.fx_routines.specs.declared.interpolation.InterpolationOp.TheVariants as interpolation
-use Rattle.fx_routines.specs.declared.table.Routine.{Routine}
-use Rattle.fx_routines.specs.declared.table.Routine.TheVariants.{Interpolation as NamedInterpolation}
-use Rattle.fx_routines.specs.Variants.{same_type}
 use Rattle.net_model.specs.declared.wires.WireNo.{WireNo}
 use Rattle.net_model.specs.declared.wires.Kind.{Kind}
 use Rattle.net_model.specs.declared.wires.Kind.TheVariants.{Num, Truth, Position}
 use Rattle.net_model.specs.declared.wires.Block.{Block}
 use Rattle.net_model.specs.declared.wires.Item.{Item}
 use Rattle.net_model.specs.declared.wires.Item.TheVariants.{Input, Const, Delay, Block as OfBlock}
-use Rattle.net_model.specs.declared.signatures.ListSort.TheVariants.{AxisOf}
-use Rattle.net_model.specs.Families.{list_or_zero, signature_of}
-use Rattle.net_model.specs.BlockForms.{form_of, form_in, in_ranges, types_over}
+use Rattle.net_model.specs.BlockForms.{form_of, form_in, in_ranges}
 use Rattle.net_model.specs.Wires.{NamedAxis, NetData, axis_at, wire_at, with_wire, kind_least, kind_greatest}
 use Rattle.net_model.specs.Faults.{has_room}
-use Rattle.net_model.specs.Validity.{AreAxes, is_kind_there, is_axis_of, is_number_of, is_plain, is_position_on, is_of_sort, lists_agree, kind_holds, item_is_sourced, same_kind, wire_names}
-use Rattle.net_model.proofs.FamilyFacts.{block_back_in}
+use Rattle.net_model.specs.Validity.{AreAxes, kind_holds, item_is_sourced, same_kind, wire_names}
+use Rattle.net_model.proofs.FamilyFacts.{block_back_in, ranges_over}
 use Rattle.net_model.proofs.HeldKinds.{few_points}
+use Rattle.net_model.proofs.LookUpFacts.{kind_there}
 use Rattle.net_model.proofs.ValidityFacts.{IsGoodBlock, IsGoodWire, good_block}
 use Rattle.net_text.specs.declared.keyword.Defined.TheVariants.{Wires}
 use Rattle.net_text.specs.Forms.{line_of, defining_line, wire_line}
@@ -84,13 +77,6 @@ pub record IsPrintable (net : NetData) (i : ℕ) (name : List ℕ) (kind : Kind)
   pub sourced : item_is_sourced net.wires kind item ≡ true
   pub room : has_room (take i net.wires) item ≡ true
 
--- the ranges of a form's numbers don't hang on the types that its lists tell
-ranges_over : (net : NetData) (routine : Routine) (v : Types) (lists : List ℕ) → (signature_of routine (types_over net.axes net.tables routine v lists)).ranges ≡ (signature_of routine v).ranges
-unfolding signature_of
-ranges_over net (NamedInterpolation (interpolation.Curve op)) v lists = refl
-ranges_over net (NamedInterpolation (interpolation.IntCurve op)) v lists = refl
-ranges_over net other v lists = refl
-
 -- what is known of a block's form
 pub good_form : (net : NetData) (i : ℕ) (kind : Kind) (b : Block) → IsGoodBlock net i kind b → IsGoodForm net i kind (form_in net b)
 good_form net i kind b is =
@@ -104,45 +90,6 @@ good_form net i kind b is =
       gives = is.gives;
       fits = ap (λ ranges. in_ranges ranges form.numbers) (ranges_over net form.routine form.types form.lists) ∙ is.fits;
     }
-
--- the axis of a position that a routine gives is there
-no_position : (net : NetData) (lists : List ℕ) (ty : Ty) (kind : Kind) → is_number_of ty kind ≡ true → is_kind_there net.axes kind ≡ true
-no_position net lists ty (Num t point) h = refl
-no_position net lists ty Truth h = refl
-no_position net lists ty (Position axis) h = absurd (cc)
-
-on_axis : (net : NetData) (ty : Ty) (lists : List ℕ) (kind : Kind) → lists_agree net lists (AxisOf ty ∷ []) lists ≡ true → is_position_on (list_or_zero lists 0) kind ≡ true → is_kind_there net.axes kind ≡ true
-on_axis net ty [] kind agree h = absurd (cc)
-on_axis net ty (n ∷ m ∷ lists) kind agree h =
-    absurd (true≢false (sym (and_parts (is_axis_of net.axes ty n) false agree).1))
-on_axis net ty (n ∷ []) (Num t point) agree h = refl
-on_axis net ty (n ∷ []) Truth agree h = refl
-on_axis net ty (n ∷ []) (Position axis) agree h =
-    let same : axis ≡ n = eqb-true axis n h in
-    let outer = and_parts (is_axis_of net.axes ty n) true agree in
-    ap (λ k. nat_lt k (length net.axes)) same ∙ (and_parts (nat_lt n (length net.axes)) (same_type ty (axis_at net.axes n).ty) outer.0).0
-
-given_there : (net : NetData) (routine : Routine) (v : Types) (lists : List ℕ) (kind : Kind) → lists_agree net lists (signature_of routine v).lists lists ≡ true → is_of_sort net lists (signature_of routine v).gives kind ≡ true → is_kind_there net.axes kind ≡ true
-unfolding signature_of
-given_there net (NamedInterpolation interpolation.Search) v lists kind agree h = on_axis net v.x lists kind agree h
-given_there net (NamedInterpolation (interpolation.Curve op)) v lists kind agree h = no_position net lists v.o kind h
-given_there net (NamedInterpolation (interpolation.IntCurve op)) v lists kind agree h = no_position net lists v.o kind h
-given_there net other v lists kind agree h = no_position net lists v.o kind h
-
--- so is that of each wire
-plain_there : (net : NetData) (kind : Kind) → is_plain kind ≡ true → is_kind_there net.axes kind ≡ true
-plain_there net (Num t point) h = refl
-plain_there net Truth h = refl
-plain_there net (Position axis) h = absurd (cc)
-
-pub kind_there : {net : NetData} {i : ℕ} {name : List ℕ} {kind : Kind} (item : Item) → IsGoodWire net i name kind item → is_kind_there net.axes kind ≡ true
-kind_there {net} {i} {name} {kind} (Input lo hi) is = plain_there net kind is.agreed
-kind_there {net} {i} {name} {kind} (Const value) is = plain_there net kind is.agreed
-kind_there {net} {i} {name} {kind} (Delay init source) is = is.agreed
-kind_there {net} {i} {name} {kind} (OfBlock b) is =
-    let good = good_form net i kind b (good_block net i name kind b is) in
-    let form = form_in net b in
-    given_there net form.routine form.types form.lists kind good.lists good.gives
 
 block_is_read : (lines : List (List ℕ)) (net : NetData) (i : ℕ) (name : List ℕ) (kind : Kind) (b : Block) → AreApart net → AreAxes net.axes → i ≤ length net.wires
     → IsNew (first_wires net i) name → IsPrintable net i name kind (OfBlock b)
