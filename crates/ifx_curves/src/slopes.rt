@@ -65,8 +65,8 @@ fn step(table: &Table, i: u32) -> u32
     high.abs_diff(low) as u32
 }
 
-// The steeper of two slopes, and of equal ones the first.
-fn steeper(first: Slope, second: Slope) -> Slope
+/// The steeper of two slopes, and of equal ones the first.
+pub fn steeper(first: Slope, second: Slope) -> Slope
     ensures { result ≡ steeper first second }
 {
     let first_product = u64::from(first.rise) * u64::from(second.run);
