@@ -184,7 +184,7 @@ floor_position i d w t p =
     ))
 
 -- a number is smaller where its product is
-smaller : (q k d : ℕ) → q * d < k * d → q < k
+pub smaller : (q k d : ℕ) → q * d < k * d → q < k
 smaller q k d h =
     elim (cases_lt q k) [
       | inl less ↦ less

@@ -9,6 +9,7 @@ use Rattle.fx_core.specs.declared.word_type.Ty.{Ty}
 use Rattle.fx_core.specs.Rounding.{rounded}
 use Rattle.fx_core.specs.Types.{Holds, greatest_of, least_of}
 use Rattle.fx_fraction.proofs.Polynomials.{differences, as_difference, same}
+use Rattle.ifx_curves.specs.Stretches.{HoldsOver}
 use Rattle.fx_core.proofs.Integers.{products_order}
 use Rattle.fx_core.proofs.RoundingLaws.{rounded_above, rounded_below}
 use Rattle.fx_core.proofs.WordSteps.{IsStep, plain, product_step, sum_step, word_of}
@@ -49,10 +50,6 @@ pub floor_word : (s k z r : ℤ) (d : ℕ) → word s ≡ z → word k ≡ pos d
 floor_word s k z r d e e' fits is = to_z-of_z w64 r fits ∙ is ∙ ap₂ int_div_euclid e e' ∙ euclid_floors z d
 
 -- ---- means are numbers of the type
-
--- v / c lies in the type
-abbrev pub HoldsOver : Ty → ℕ → ℤ → Type 0
-HoldsOver t c v = ((least_of t *ℤ pos c) ≤ℤ v) × (v ≤ℤ (greatest_of t *ℤ pos c))
 
 pub holds_over_one : (t : Ty) (v : ℤ) → Holds t v → HoldsOver t 1 v
 holds_over_one t v h = (subst (λ z. z ≤ℤ v) (sym (once (least_of t))) h.0, subst (λ z. v ≤ℤ z) (sym (once (greatest_of t))) h.1)

@@ -2,9 +2,9 @@ use Rattle.std.proofs.Common.{◌≡◌, ◌∙◌, ap, ap₂, sym, subst, arith
 use Rattle.std.specs.Int.{w64}
 use Rattle.std.proofs.lemmas.Int.{to_z-of_z}
 use Rattle.fx_core.specs.Types.{Holds}
-use Rattle.ifx_curves.specs.Stretches.{weighted_sum}
+use Rattle.ifx_curves.specs.Stretches.{HoldsOver, weighted_sum}
 use Rattle.ifx_curves.specs.Tables.{value_at}
-use Rattle.ifx_curves.proofs.Means.{HoldsOver, floor_held, floor_word, holds_over_one, mean_over, word}
+use Rattle.ifx_curves.proofs.Means.{floor_held, floor_word, holds_over_one, mean_over, word}
 use Rattle.ifx_curves.proofs.curves.between.Goals as goal
 
 pub returns-clause-value : goal.returns-clause-value
