@@ -5,7 +5,7 @@ use Rattle.std.proofs.Math.Nat.{lt-div-mul-add, mul-pos}
 use Rattle.std.proofs.Math.ListN.{get_or-map, length-map}
 use Rattle.std.proofs.lemmas.Int.{ints}
 use borrow.Author.Differences.{up, down, below_in, at_most_in}
-use Rattle.fx_fraction.specs.Fraction.{Fraction, denom, whole, minus, Is, Same}
+use Rattle.fx_fraction.specs.Fraction.{Fraction, denom, whole, plus, minus, times, divided, Is, Same}
 use Rattle.fx_fraction.proofs.Denominators.{is_whole, is_plus, is_minus, is_times, is_divided, is_renamed, is_same, is_scaled, common_two, Same-in}
 use Rattle.fx_fraction.proofs.Polynomials.{differences, as_difference, same}
 use Rattle.fx_fraction.proofs.WholeNumbers.{int_le-true, int_le-false, int_eq_of-mul, int_le_of-mul, int_lt_of-mul, int_le-mul_pos, int_lt-mul_pos}
@@ -62,6 +62,18 @@ is_on_way f g t c d w x y h i j k =
 
     weighted : (x y : ℤ) (r w : ℕ) → x *ℤ pos (r + w) +ℤ (y -ℤ x) *ℤ pos w ≡ x *ℤ pos r +ℤ y *ℤ pos w
     weighted x y r w = rw (as_difference x, as_difference y) (simp differences (same _ _ _ _ (omega arith)))
+
+-- between two values, at any position
+pub is_on_way_of_values : (v w : ℤ) {t : Fraction} {d : ℕ} {x : ℤ} → Is t d x → Is (on_way (whole v) (whole w) t) (65536 * d) (v *ℤ pos (65536 * d) +ℤ (w -ℤ v) *ℤ x)
+unfolding on_way
+is_on_way_of_values v w {t} {d} {x} i =
+    let some : 1 ≤ 65536 * d = omega (arith, i.positive) in
+    let rise = is_renamed (omega arith) (is_times (is_minus (is_whole w 1 (omega arith)) (is_whole v 1 (omega arith))) i) in
+    let way = is_divided some rise (is_whole (pos 65536) d i.positive) in
+    subst (λ r. Is (plus (whole v) (divided (times (minus (whole w) (whole v)) t) (whole (pos 65536)))) (65536 * d) (v *ℤ pos (65536 * d) +ℤ r *ℤ x)) (ones v w) (is_plus (is_whole v (65536 * d) some) way)
+  where
+    ones : (v w : ℤ) → w *ℤ pos 1 -ℤ v *ℤ pos 1 ≡ w -ℤ v
+    ones v w = omega (arith, ints)
 
 nothing_of : (z : ℤ) (n : ℕ) → n ≡ 0 → z *ℤ pos n ≡ pos 0
 nothing_of z n e = rw (e, as_difference z) (simp differences (same _ _ _ _ (omega (arith, mul-zero (up z), mul-zero (down z)))))
