@@ -6,10 +6,10 @@ use native.Mathlib.Nat.{mul-pos}
 use Rattle.std.proofs.lemmas.Bool.{cases_lt}
 use Rattle.std.proofs.lemmas.Int.{ints}
 use Rattle.std.proofs.lemmas.List.{get_or_past}
-use Rattle.fx_fraction.specs.Fraction.{Fraction, denom, whole, plus, minus, times, divided, Is}
+use Rattle.fx_fraction.specs.Fraction.{Fraction, denom, whole, plus, minus, Is}
 use Rattle.fx_fraction.proofs.Denominators.{is_self, is_whole, is_plus, is_minus, is_times, is_divided, is_renamed, AtMost-in, AtMost-out}
 use Rattle.fx_fraction.proofs.Polynomials.{differences, as_difference, same}
-use Rattle.fx_fraction.proofs.WholeNumbers.{int_add-mul, int_is_natural, int_le-false, int_le-mul_pos, int_le-pos, int_le-true, int_le_trans, int_mul-one, int_sub-mul}
+use Rattle.fx_fraction.proofs.WholeNumbers.{int_add-mul, int_is_natural, int_le-false, int_le-mul_pos, int_le-pos, int_le-true, int_le_trans, int_sub-mul}
 use Rattle.fx_core.specs.declared.quotient.Mode.TheVariants.{Floor}
 use Rattle.fx_core.specs.declared.word_type.Ty.{Ty}
 use Rattle.fx_core.specs.declared.word_type.Ty.TheVariants.{U8, S8, U16, S16, U32, S32}
