@@ -8,7 +8,7 @@ use Rattle.fx_routines.specs.declared.operation.ArithOp.TheVariants.{Add, Mul, D
 use Rattle.fx_routines.specs.declared.operation.ScaledOp.TheVariants.{Convert}
 use Rattle.fx_routines.specs.declared.interpolation.CurveOp.TheVariants.{Ipo}
 use Rattle.ifx_search.specs.Positions.{position, way_in}
-use Rattle.ifx_curves.specs.Curves.{curve, on_way}
+use Rattle.ifx_curves.specs.Curves.{curve, curve_through, on_way}
 use Rattle.ifx_curves.specs.Slopes.{greatest_of_steps, steepest_of}
 use Rattle.ifx_rules.specs.LookUpRules.{curve_bounds, curve_over_bounds, least_of_gaps, position_bounds}
 use Rattle.net_model.specs.declared.wires.Kind.TheVariants.{Num, Position}
@@ -110,15 +110,15 @@ looking_entries last error =
     record { lo = pos 0; hi = pos 100; err = pos 65536 } ∷ []
 
 looking_accepted : first_rejected looking (looking_entries 131072 65636) ≡ None
-unfolding looking looking_entries first_rejected first_failing is_allowed_at is_inductive_at rule_of is_allowed block_rule position_bounds curve_bounds curve_over_bounds least_of_gaps greatest_of_steps steepest_of position way_in curve on_way entry_of rounded least_quotient_above quotient divided whole plus minus times
+unfolding looking looking_entries first_rejected first_failing is_allowed_at is_inductive_at rule_of is_allowed block_rule position_bounds curve_bounds curve_over_bounds least_of_gaps greatest_of_steps steepest_of position way_in curve curve_through on_way entry_of rounded least_quotient_above quotient divided whole plus minus times
 looking_accepted = refl
 
 -- the curve at a position has the position's error besides its own
 curve_error_too_small : first_rejected looking (looking_entries 131072 65635) ≡ Some 2
-unfolding looking looking_entries first_rejected first_failing is_allowed_at is_inductive_at rule_of is_allowed block_rule position_bounds curve_bounds curve_over_bounds least_of_gaps greatest_of_steps steepest_of position way_in curve on_way entry_of rounded least_quotient_above quotient divided whole plus minus times
+unfolding looking looking_entries first_rejected first_failing is_allowed_at is_inductive_at rule_of is_allowed block_rule position_bounds curve_bounds curve_over_bounds least_of_gaps greatest_of_steps steepest_of position way_in curve curve_through on_way entry_of rounded least_quotient_above quotient divided whole plus minus times
 curve_error_too_small = refl
 
 -- no position is behind the last point of its axis
 position_too_far : first_rejected looking (looking_entries 131073 65636) ≡ Some 1
-unfolding looking looking_entries first_rejected first_failing is_allowed_at is_inductive_at rule_of is_allowed block_rule position_bounds curve_bounds curve_over_bounds least_of_gaps greatest_of_steps steepest_of position way_in curve on_way entry_of rounded least_quotient_above quotient divided whole plus minus times
+unfolding looking looking_entries first_rejected first_failing is_allowed_at is_inductive_at rule_of is_allowed block_rule position_bounds curve_bounds curve_over_bounds least_of_gaps greatest_of_steps steepest_of position way_in curve curve_through on_way entry_of rounded least_quotient_above quotient divided whole plus minus times
 position_too_far = refl

@@ -1,20 +1,22 @@
 -- The curve at a position over any denominator.
-use Rattle.std.specs.Prelude.{◌≡◌, ℕ, zero, suc, ◌+◌, ◌-◌, ◌*◌, ◌<◌, ◌≤◌, Bool, true, false, if◌then◌else◌, ℤ, pos, ◌+ℤ◌, ◌-ℤ◌, ◌*ℤ◌, ◌≤ℤ◌, ◌<ℤ◌, nat_lt, unsigned_abs, ◌/◌, ◌%◌, List, [], ◌∷◌, length}
-use Rattle.std.proofs.Common.{refl, sym, ap, ap₂, ◌∙◌, subst, arith, mul-zero, mul-le-mul_right, div-mul-le_self, le_of_mul-le-mul_right}
-use Rattle.std.proofs.Math.Nat.{lt-div-mul-add}
+use Rattle.std.specs.Prelude.{◌≡◌, ℕ, zero, suc, ◌+◌, ◌-◌, ◌*◌, ◌<◌, ◌≤◌, Bool, true, false, if◌then◌else◌, ℤ, pos, ◌+ℤ◌, ◌-ℤ◌, ◌*ℤ◌, ◌≤ℤ◌, ◌<ℤ◌, nat_lt, unsigned_abs, ◌/◌, ◌%◌, List, [], ◌∷◌, length, map, get_or}
+use Rattle.std.proofs.Common.{refl, sym, ap, ap₂, ◌∙◌, subst, arith, mul-zero, mul-le-mul_right, div-mul-le_self, inl, inr}
+use Rattle.std.proofs.Math.Nat.{lt-div-mul-add, mul-pos}
+use Rattle.std.proofs.Math.ListN.{get_or-map, length-map}
 use Rattle.std.proofs.lemmas.Int.{ints}
 use borrow.Author.Differences.{up, down, below_in, at_most_in}
-use Rattle.fx_fraction.specs.Fraction.{Fraction, denom, whole, minus, Is}
-use Rattle.fx_fraction.proofs.Denominators.{is_whole, is_plus, is_minus, is_times, is_divided, is_renamed}
+use Rattle.fx_fraction.specs.Fraction.{Fraction, denom, whole, plus, minus, times, divided, Is, Same}
+use Rattle.fx_fraction.proofs.Denominators.{is_whole, is_plus, is_minus, is_times, is_divided, is_renamed, is_same, is_scaled, common_two, Same-in}
 use Rattle.fx_fraction.proofs.Polynomials.{differences, as_difference, same}
 use Rattle.fx_fraction.proofs.WholeNumbers.{int_le-true, int_le-false, int_eq_of-mul, int_le_of-mul, int_lt_of-mul, int_le-mul_pos, int_lt-mul_pos}
 use Rattle.fx_core.specs.declared.quotient.Mode.TheVariants.{Floor}
 use Rattle.fx_core.specs.Rounding.{rounded}
 use Rattle.fx_core.specs.Values.{rounded_fraction}
-use Rattle.fx_core.proofs.RoundingLaws.{rounded_by_one, rounded_from_rounds, rounds-rounded}
+use Rattle.fx_core.proofs.RoundingLaws.{rounded_from_rounds, rounds-rounded}
+use Rattle.std.proofs.lemmas.Bool.{cases_lt}
 use Rattle.std.proofs.lemmas.Bool.Decides.{nat_tests}
 use Rattle.ifx_search.specs.Positions.{is_at_most}
-use Rattle.ifx_curves.specs.Curves.{curve, curve_value, looked_up, on_way}
+use Rattle.ifx_curves.specs.Curves.{curve, curve_through, curve_value, looked_up, nearer_point, on_way}
 use Rattle.fx_routines.specs.declared.interpolation.CurveOp.TheVariants.{Ipo, LkUp}
 use Rattle.ifx_curves.specs.Tables.{value_at}
 
@@ -35,92 +37,133 @@ not_at_most_out t k z d i e =
 
 -- ---- on one segment
 
--- what stands there over 65536 * d, as a mean with weights
-on_way_sum : (v u : ℤ) (d w : ℕ) → w ≤ 65536 * d → v *ℤ pos (65536 * d) +ℤ (u -ℤ v) *ℤ pos w ≡ v *ℤ pos (65536 * d - w) +ℤ u *ℤ pos w
-on_way_sum v u d w h =
-    let rest = 65536 * d - w in
-    let all : 65536 * d ≡ rest + w = omega (arith, h) in
-    ap (λ n. v *ℤ pos n +ℤ (u -ℤ v) *ℤ pos w) all ∙ weighted v u rest w
+cancelled : (f : Fraction) (d : ℕ) (n : ℤ) → 1 ≤ d → Is f (65536 * d) (n *ℤ pos 65536) → Is f d n
+cancelled f d n some i = record { positive = some; equal = int_eq_of-mul (f.numer *ℤ pos d) (n *ℤ pos (denom f)) 65536 (omega arith) (spread f.numer d ∙ i.equal ∙ turned n (denom f)) }
   where
-    weighted : (v u : ℤ) (r w : ℕ) → v *ℤ pos (r + w) +ℤ (u -ℤ v) *ℤ pos w ≡ v *ℤ pos r +ℤ u *ℤ pos w
-    weighted v u r w = rw (as_difference v, as_difference u) (simp differences (same _ _ _ _ (omega arith)))
+    spread : (m : ℤ) (d : ℕ) → m *ℤ pos d *ℤ pos 65536 ≡ m *ℤ pos (65536 * d)
+    spread m d = rw (as_difference m) (simp differences (same _ _ _ _ (omega arith)))
 
-pub is_on_way : (v u : ℤ) (t : Fraction) (d w : ℕ) → w ≤ 65536 * d → Is t d (pos w) → Is (on_way v u t) (65536 * d) (v *ℤ pos (65536 * d - w) +ℤ u *ℤ pos w)
+    turned : (m : ℤ) (a : ℕ) → m *ℤ pos 65536 *ℤ pos a ≡ m *ℤ pos a *ℤ pos 65536
+    turned m a = rw (as_difference m) (simp differences (same _ _ _ _ (omega arith)))
+
+-- between two heights over one denominator: their mean with weights
+pub is_on_way : (f g t : Fraction) (c d w : ℕ) (x y : ℤ) → w ≤ d → Is f c x → Is g c y → Is t d (pos (65536 * w)) → Is (on_way f g t) (c * d) (x *ℤ pos (d - w) +ℤ y *ℤ pos w)
 unfolding on_way
-is_on_way v u t d w h i =
+is_on_way f g t c d w x y h i j k =
+    let some : 1 ≤ c * d = mul-pos i.positive k.positive in
+    let rise = is_times (is_minus j i) k in
+    let way = is_divided {n = 65536 * (c * d)} (omega (arith, some)) rise (is_whole (pos 65536) (c * d) some) in
+    let rest : d ≡ d - w + w = omega (arith, h) in
+    subst (Is _ (c * d)) (ap (λ n. x *ℤ pos n +ℤ (y -ℤ x) *ℤ pos w) rest ∙ weighted x y (d - w) w)
+    (is_plus (is_scaled d k.positive i) (cancelled _ (c * d) ((y -ℤ x) *ℤ pos w) some (subst (Is _ (65536 * (c * d))) (gathered (y -ℤ x) w) way)))
+  where
+    gathered : (z : ℤ) (w : ℕ) → z *ℤ pos (65536 * w) ≡ z *ℤ pos w *ℤ pos 65536
+    gathered z w = rw (as_difference z) (simp differences (same _ _ _ _ (omega arith)))
+
+    weighted : (x y : ℤ) (r w : ℕ) → x *ℤ pos (r + w) +ℤ (y -ℤ x) *ℤ pos w ≡ x *ℤ pos r +ℤ y *ℤ pos w
+    weighted x y r w = rw (as_difference x, as_difference y) (simp differences (same _ _ _ _ (omega arith)))
+
+-- between two values, at any position
+pub is_on_way_of_values : (v w : ℤ) {t : Fraction} {d : ℕ} {x : ℤ} → Is t d x → Is (on_way (whole v) (whole w) t) (65536 * d) (v *ℤ pos (65536 * d) +ℤ (w -ℤ v) *ℤ x)
+unfolding on_way
+is_on_way_of_values v w {t} {d} {x} i =
     let some : 1 ≤ 65536 * d = omega (arith, i.positive) in
-    let once : (u -ℤ v) *ℤ pos 1 ≡ u -ℤ v = omega (arith, ints) in
-    let rise = is_renamed (omega arith) (is_times (is_whole (u -ℤ v) 1 (omega arith)) i) in
+    let rise = is_renamed (omega arith) (is_times (is_minus (is_whole w 1 (omega arith)) (is_whole v 1 (omega arith))) i) in
     let way = is_divided some rise (is_whole (pos 65536) d i.positive) in
-    subst (Is _ (65536 * d)) (ap (λ n. v *ℤ pos (65536 * d) +ℤ n *ℤ pos w) once ∙ on_way_sum v u d w h) (is_plus (is_whole v (65536 * d) some) way)
+    subst (λ r. Is (plus (whole v) (divided (times (minus (whole w) (whole v)) t) (whole (pos 65536)))) (65536 * d) (v *ℤ pos (65536 * d) +ℤ r *ℤ x)) (ones v w) (is_plus (is_whole v (65536 * d) some) way)
+  where
+    ones : (v w : ℤ) → w *ℤ pos 1 -ℤ v *ℤ pos 1 ≡ w -ℤ v
+    ones v w = omega (arith, ints)
+
+nothing_of : (z : ℤ) (n : ℕ) → n ≡ 0 → z *ℤ pos n ≡ pos 0
+nothing_of z n e = rw (e, as_difference z) (simp differences (same _ _ _ _ (omega (arith, mul-zero (up z), mul-zero (down z)))))
+
+-- at the first of the two it is that one
+at_start : (f : Fraction) (c d w : ℕ) (x y : ℤ) → 1 ≤ d → w ≡ 0 → Is f c x → Is f (c * d) (x *ℤ pos (d - w) +ℤ y *ℤ pos w)
+at_start f c d w x y some none i = subst (Is f (c * d)) (sum x y d w none) (is_scaled d some i)
+  where
+    sum : (x y : ℤ) (d w : ℕ) → w ≡ 0 → x *ℤ pos d ≡ x *ℤ pos (d - w) +ℤ y *ℤ pos w
+    sum x y d w none =
+        let left : d - w ≡ d = omega (arith, none) in
+        omega (arith, ints, nothing_of y w none, ap (λ n. x *ℤ pos n) left)
+
+-- and at the second that one
+at_finish : (f g t : Fraction) (d : ℕ) → Is t d (pos (65536 * d)) → Same g (on_way f g t)
+at_finish f g t d p =
+    let c = common_two f g in
+    Same-in (is_scaled d p.positive c.second) (is_on_way f g t c.bottom d d c.x c.y (omega arith) c.first c.second p) (sum c.x c.y d)
+  where
+    sum : (x y : ℤ) (d : ℕ) → y *ℤ pos d ≡ x *ℤ pos (d - d) +ℤ y *ℤ pos d
+    sum x y d = omega (arith, ints, nothing_of x (d - d) (omega arith))
 
 -- ---- on the curve
 
--- at the first of two values
-first_sum : (v u : ℤ) (n : ℕ) → v *ℤ pos n ≡ v *ℤ pos n +ℤ u *ℤ pos 0
-first_sum v u n = rw (as_difference v, as_difference u) (simp differences (same _ _ _ _ (omega (arith, mul-zero (up u), mul-zero (down u), mul-zero (up v), mul-zero (down v)))))
+-- height number i, from 0
+abbrev pub height_at : List Fraction → ℕ → Fraction
+height_at heights i = get_or heights i (whole (pos 0))
 
--- and at the second
-second_sum : (v u y : ℤ) (n : ℕ) → v *ℤ pos 0 +ℤ u *ℤ pos n ≡ u *ℤ pos n +ℤ y *ℤ pos 0
-second_sum v u y n = rw (as_difference v, as_difference u, as_difference y) (simp differences (same _ _ _ _ (omega (arith, mul-zero (up u), mul-zero (down u), mul-zero (up v), mul-zero (down v), mul-zero (up y), mul-zero (down y)))))
-
--- from value i on the way to the next: over 65536 * d
-abbrev pub way_sum : List ℤ → ℕ → ℕ → ℕ → ℤ
-way_sum values i d w = value_at values i *ℤ pos (65536 * d - w) +ℤ value_at values (suc i) *ℤ pos w
-
-at_first : (v u : ℤ) (d w : ℕ) → 1 ≤ d → pos w ≤ℤ (pos 0 *ℤ pos d) → Is (whole v) (65536 * d) (v *ℤ pos (65536 * d - w) +ℤ u *ℤ pos w)
-at_first v u d w some h =
-    let none : w ≡ 0 = omega (arith, ints, h) in
-    let left : 65536 * d - w ≡ 65536 * d = omega (arith, none) in
-    subst (Is _ (65536 * d)) (first_sum v u (65536 * d) ∙ ap₂ (λ m n. v *ℤ pos m +ℤ u *ℤ pos n) (sym left) (sym none)) (is_whole v (65536 * d) (omega (arith, some)))
-
-at_second : (v u y : ℤ) (t : Fraction) (d j w : ℕ) → (pos (65536 * suc j * d + w)) ≤ℤ (pos 65536 *ℤ pos d) → Is t d (pos (65536 * suc j * d + w)) → (j ≡ 0) × Is (on_way v u t) (65536 * d) (u *ℤ pos (65536 * d - w) +ℤ y *ℤ pos w)
-at_second v u y t d zero w h i = (refl, subst (Is _ (65536 * d)) sums (is_on_way v u t d (65536 * d) (omega arith) (subst (λ n. Is t d (pos n)) all i)))
+-- at any position of the segment from height i on
+pub is_through : (heights : List Fraction) (i c d w : ℕ) (x y : ℤ) (t : Fraction) → suc i < length heights → w ≤ d → Is (height_at heights i) c x → Is (height_at heights (suc i)) c y → Is t d (pos (65536 * i * d + 65536 * w))
+    → Is (curve_through heights t) (c * d) (x *ℤ pos (d - w) +ℤ y *ℤ pos w)
+unfolding curve_through
+is_through [] i c d w x y t h k a b p = absurd (omega (arith, h))
+is_through (f ∷ []) i c d w x y t h k a b p = absurd (omega (arith, h))
+is_through (f ∷ g ∷ heights) zero c d w x y t h k a b p = by_tests _ _ refl refl
   where
-    none : w ≡ 0
-    none = omega (arith, ints, h)
-
-    all : 65536 * 1 * d + w ≡ 65536 * d
-    all = omega (arith, none)
-
-    sums : v *ℤ pos (65536 * d - 65536 * d) +ℤ u *ℤ pos (65536 * d) ≡ u *ℤ pos (65536 * d - w) +ℤ y *ℤ pos w
-    sums =
-        ap (λ n. v *ℤ pos n +ℤ u *ℤ pos (65536 * d)) (omega arith)
-        ∙ second_sum v u y (65536 * d)
-        ∙ ap₂ (λ m n. u *ℤ pos m +ℤ y *ℤ pos n) (omega (arith, none)) (sym none)
-at_second v u y t d (suc j) w h i = absurd (more j d (omega (arith, ints, h)) i.positive)
-  where
-    twice : (j : ℕ) → 65536 * 2 ≤ 65536 * suc (suc j)
-    twice j = omega arith
-
-    more : (j d : ℕ) → 65536 * suc (suc j) * d ≤ 65536 * d → 1 ≤ d → ⊥
-    more j d h p = absurd (omega (arith, h, p, mul-le-mul_right d (twice j)))
-
--- at any position of the segment from value i on
-pub is_curve : (values : List ℤ) (i d w : ℕ) (t : Fraction) → suc i < length values → w ≤ 65536 * d → Is t d (pos (65536 * i * d + w)) → Is (curve values t) (65536 * d) (way_sum values i d w)
-unfolding curve
-is_curve [] i d w t h k p = absurd (omega (arith, h))
-is_curve (v ∷ []) i d w t h k p = absurd (omega (arith, h))
-is_curve (v ∷ u ∷ values) zero d w t h k p = by_tests _ _ refl refl
-  where
-    p' : Is t d (pos w)
+    p' : Is t d (pos (65536 * w))
     p' = subst (λ n. Is t d (pos n)) (omega arith) p
 
-    by_tests : (a b : Bool) → is_at_most t (pos 0) ≡ a → is_at_most t (pos 65536) ≡ b → Is (if a then whole v else if b then on_way v u t else curve (u ∷ values) (minus t (whole (pos 65536)))) (65536 * d) (v *ℤ pos (65536 * d - w) +ℤ u *ℤ pos w)
-    by_tests true b e f = at_first v u d w p'.positive (at_most_out t (pos 0) (pos w) d p' e)
-    by_tests false true e f = is_on_way v u t d w k p'
-    by_tests false false e f = let less = not_at_most_out t (pos 65536) (pos w) d p' f in absurd (omega (arith, ints, less, k))
-is_curve (v ∷ u ∷ values) (suc j) d w t h k p = by_tests _ _ refl refl (λ q. is_curve (u ∷ values) j d w (minus t (whole (pos 65536))) (omega (arith, h)) k q)
+    by_tests : (u v : Bool) → is_at_most t (pos 0) ≡ u → is_at_most t (pos 65536) ≡ v → Is (if u then f else if v then on_way f g t else curve_through (g ∷ heights) (minus t (whole (pos 65536)))) (c * d) (x *ℤ pos (d - w) +ℤ y *ℤ pos w)
+    by_tests true v e r = let none = at_most_out t (pos 0) _ d p' e in at_start f c d w x y p'.positive (omega (arith, ints, none)) a
+    by_tests false true e r = is_on_way f g t c d w x y k a b p'
+    by_tests false false e r = let less = not_at_most_out t (pos 65536) _ d p' r in absurd (omega (arith, ints, less, k))
+is_through (f ∷ g ∷ heights) (suc j) c d w x y t h k a b p = by_tests _ _ refl refl (λ q. is_through (g ∷ heights) j c d w x y (minus t (whole (pos 65536))) (omega (arith, h)) k a b q)
   where
-    rest : Is (minus t (whole (pos 65536))) d (pos (65536 * j * d + w))
+    rest : Is (minus t (whole (pos 65536))) d (pos (65536 * j * d + 65536 * w))
     rest = subst (Is _ d) (omega (arith, ints)) (is_minus p (is_whole (pos 65536) d p.positive))
 
-    by_tests : (a b : Bool) → is_at_most t (pos 0) ≡ a → is_at_most t (pos 65536) ≡ b → (Is (minus t (whole (pos 65536))) d (pos (65536 * j * d + w)) → Is (curve (u ∷ values) (minus t (whole (pos 65536)))) (65536 * d) (way_sum (u ∷ values) j d w)) → Is (if a then whole v else if b then on_way v u t else curve (u ∷ values) (minus t (whole (pos 65536)))) (65536 * d) (way_sum (u ∷ values) j d w)
-    by_tests true b e f later = let less = at_most_out t (pos 0) _ d p e in absurd (omega (arith, ints, less, p.positive))
-    by_tests false true e f later =
-        let s = at_second v u (value_at (u ∷ values) 1) t d j w (at_most_out t (pos 65536) _ d p f) p in
-        subst (λ n. Is (on_way v u t) (65536 * d) (way_sum (u ∷ values) n d w)) (sym s.0) s.1
-    by_tests false false e f later = later rest
+    -- at its start, which is the end of the segment before
+    first_end : (pos (65536 * suc j * d + 65536 * w)) ≤ℤ (pos 65536 *ℤ pos d) → (j ≡ 0) × (w ≡ 0)
+    first_end under = (place j d (omega (arith, ints, under)) p.positive, omega (arith, ints, under))
+      where
+        twice : (j : ℕ) → 65536 * 2 ≤ 65536 * suc (suc j)
+        twice j = omega arith
+
+        place : (j d : ℕ) → 65536 * suc j * d ≤ 65536 * d → 1 ≤ d → j ≡ 0
+        place zero d l some = refl
+        place (suc j) d l some = absurd (omega (arith, l, some, mul-le-mul_right d (twice j)))
+
+    at_one : (j : ℕ) → j ≡ 0 → Is (height_at (g ∷ heights) j) c x → Is g c x
+    at_one zero e i = i
+    at_one (suc j) e i = absurd (omega (arith, e))
+
+    ended : (j ≡ 0) × (w ≡ 0) → Is (on_way f g t) (c * d) (x *ℤ pos (d - w) +ℤ y *ℤ pos w)
+    ended e = is_same (at_finish f g t d (subst (λ n. Is t d (pos n)) (all j e.0 e.1) p)) (at_start g c d w x y p.positive e.1 (at_one j e.0 a))
+      where
+        all : (j : ℕ) → j ≡ 0 → w ≡ 0 → 65536 * suc j * d + 65536 * w ≡ 65536 * d
+        all zero e e' = omega (arith, e')
+        all (suc j) e e' = absurd (omega (arith, e))
+
+    by_tests : (u v : Bool) → is_at_most t (pos 0) ≡ u → is_at_most t (pos 65536) ≡ v → (Is (minus t (whole (pos 65536))) d (pos (65536 * j * d + 65536 * w)) → Is (curve_through (g ∷ heights) (minus t (whole (pos 65536)))) (c * d) (x *ℤ pos (d - w) +ℤ y *ℤ pos w))
+        → Is (if u then f else if v then on_way f g t else curve_through (g ∷ heights) (minus t (whole (pos 65536)))) (c * d) (x *ℤ pos (d - w) +ℤ y *ℤ pos w)
+    by_tests true v e r later = let less = at_most_out t (pos 0) _ d p e in absurd (omega (arith, ints, less, p.positive))
+    by_tests false true e r later = ended (first_end (at_most_out t (pos 65536) _ d p r))
+    by_tests false false e r later = later rest
+
+-- a value as a height
+is_value : (values : List ℤ) (i : ℕ) → Is (height_at (map whole values) i) 1 (value_at values i)
+is_value values i =
+    subst (λ f. Is f 1 (value_at values i)) (sym (get_or-map whole values i (pos 0)))
+    (subst (Is _ 1) (once (value_at values i)) (is_whole (value_at values i) 1 (omega arith)))
+  where
+    once : (z : ℤ) → z *ℤ pos 1 ≡ z
+    once z = omega (arith, ints)
+
+-- the curve through values, at the end of a stretch
+pub is_curve : (values : List ℤ) (i d w : ℕ) (t : Fraction) → suc i < length values → w ≤ d → Is t d (pos (65536 * i * d + 65536 * w)) → Is (curve values t) d (value_at values i *ℤ pos (d - w) +ℤ value_at values (suc i) *ℤ pos w)
+unfolding curve
+is_curve values i d w t h k p =
+    is_renamed (omega arith) (is_through (map whole values) i 1 d w (value_at values i) (value_at values (suc i)) t (simp length-map h) k (is_value values i) (is_value values (suc i)) p)
 
 -- ---- rounded
 
@@ -138,61 +181,13 @@ rounded_name f d z i =
     turned : (x : ℤ) (a b : ℕ) → x *ℤ pos b *ℤ pos a ≡ x *ℤ pos a *ℤ pos b
     turned x a b = rw (as_difference x) (simp differences (same _ _ _ _ (omega arith)))
 
--- what a routine gives of the curve at a whole position
-pub interpolates : (values : List ℤ) (i w : ℕ) (t : ℤ) → suc i < length values → w ≤ 65536 → t ≡ pos (65536 * i + w) → rounded Floor (value_at values i *ℤ pos (65536 - w) +ℤ value_at values (suc i) *ℤ pos w) (pos 65536) ≡ curve_value Ipo values (whole t)
+-- what a routine gives of the curve at the end of a stretch
+pub interpolates : (values : List ℤ) (i d w : ℕ) (t : Fraction) → suc i < length values → w ≤ d → Is t d (pos (65536 * i * d + 65536 * w)) → rounded Floor (value_at values i *ℤ pos (d - w) +ℤ value_at values (suc i) *ℤ pos w) (pos d) ≡ curve_value Ipo values t
 unfolding curve_value
-interpolates values i w t h k e =
-    let at : Is (whole t) 1 (pos (65536 * i * 1 + w)) = subst (Is _ 1) (omega (arith, ints, e)) (is_whole t 1 (omega arith)) in
-    sym (rounded_name (curve values (whole t)) (65536 * 1) _ (is_curve values i 1 w (whole t) h (omega (arith, k)) at))
-
-near : (values : List ℤ) (i w : ℕ) → w ≤ 65536 → (if nat_lt w 32768 then value_at values i else value_at values (suc i)) ≡ looked_up values (65536 * i + w)
-unfolding looked_up
-near values i w k = by_end (nat_lt w 65536) refl
-  where
-    by_end : (b : Bool) → nat_lt w 65536 ≡ b → (if nat_lt w 32768 then value_at values i else value_at values (suc i)) ≡ (if nat_lt ((65536 * i + w) % 65536) 32768 then value_at values ((65536 * i + w) / 65536) else value_at values (suc ((65536 * i + w) / 65536)))
-    by_end true p =
-        let less : w < 65536 = grind (arith, nat_tests) in
-        let rest : (65536 * i + w) % 65536 ≡ w = omega (arith, less) in
-        let place : (65536 * i + w) / 65536 ≡ i = omega (arith, less) in
-        ap₂ (λ m n. if nat_lt m 32768 then value_at values n else value_at values (suc n)) (sym rest) (sym place)
-    by_end false p =
-        let all : w ≡ 65536 = grind (arith, nat_tests) in
-        let rest : (65536 * i + w) % 65536 ≡ 0 = omega (arith, all) in
-        let place : (65536 * i + w) / 65536 ≡ suc i = omega (arith, all) in
-        ap (λ m. if nat_lt m 32768 then value_at values i else value_at values (suc i)) all ∙ ap₂ (λ m n. if nat_lt m 32768 then value_at values n else value_at values (suc n)) (sym rest) (sym place)
-
-pub looks_up : (values : List ℤ) (i w : ℕ) (t : ℤ) → w ≤ 65536 → t ≡ pos (65536 * i + w) → (if nat_lt w 32768 then value_at values i else value_at values (suc i)) ≡ curve_value LkUp values (whole t)
-unfolding curve_value whole
-looks_up values i w t k e = near values i w k ∙ ap (λ z. looked_up values (unsigned_abs z)) (sym (rounded_by_one Floor t ∙ e))
-
--- ---- at a position over another denominator
-
-cancelled : (f : Fraction) (d : ℕ) (n : ℤ) → 1 ≤ d → Is f (65536 * d) (n *ℤ pos 65536) → Is f d n
-cancelled f d n some i = record { positive = some; equal = int_eq_of-mul (f.numer *ℤ pos d) (n *ℤ pos (denom f)) 65536 (omega arith) (spread f.numer d ∙ i.equal ∙ turned n (denom f)) }
-  where
-    spread : (m : ℤ) (d : ℕ) → m *ℤ pos d *ℤ pos 65536 ≡ m *ℤ pos (65536 * d)
-    spread m d = rw (as_difference m) (simp differences (same _ _ _ _ (omega arith)))
-
-    turned : (m : ℤ) (a : ℕ) → m *ℤ pos 65536 *ℤ pos a ≡ m *ℤ pos a *ℤ pos 65536
-    turned m a = rw (as_difference m) (simp differences (same _ _ _ _ (omega arith)))
-
-gathered : (v u : ℤ) (d w : ℕ) → w ≤ d → v *ℤ pos (65536 * d - 65536 * w) +ℤ u *ℤ pos (65536 * w) ≡ (v *ℤ pos (d - w) +ℤ u *ℤ pos w) *ℤ pos 65536
-gathered v u d w h = ap (λ n. v *ℤ pos n +ℤ u *ℤ pos (65536 * w)) rest ∙ times_out v u (d - w) w
-  where
-    rest : 65536 * d - 65536 * w ≡ 65536 * (d - w)
-    rest = omega (arith, h)
-
-    times_out : (v u : ℤ) (r w : ℕ) → v *ℤ pos (65536 * r) +ℤ u *ℤ pos (65536 * w) ≡ (v *ℤ pos r +ℤ u *ℤ pos w) *ℤ pos 65536
-    times_out v u r w = rw (as_difference v, as_difference u) (simp differences (same _ _ _ _ (omega arith)))
-
-pub interpolates_at : (values : List ℤ) (i d w : ℕ) (t : Fraction) → suc i < length values → w ≤ d → Is t d (pos (65536 * i * d + 65536 * w)) → rounded Floor (value_at values i *ℤ pos (d - w) +ℤ value_at values (suc i) *ℤ pos w) (pos d) ≡ curve_value Ipo values t
-unfolding curve_value
-interpolates_at values i d w t h k p =
-    let over = subst (Is (curve values t) (65536 * d)) (gathered (value_at values i) (value_at values (suc i)) d w k) (is_curve values i d (65536 * w) t h (omega (arith, k)) p) in
-    sym (rounded_name (curve values t) d _ (cancelled (curve values t) d _ p.positive over))
+interpolates values i d w t h k p = sym (rounded_name (curve values t) d _ (is_curve values i d w t h k p))
 
 -- a position rounded downward
-floor_position : (i d w : ℕ) (t : Fraction) → Is t d (pos (65536 * i * d + 65536 * w)) → rounded_fraction Floor t ≡ pos (65536 * i + 65536 * w / d)
+pub floor_position : (i d w : ℕ) (t : Fraction) → Is t d (pos (65536 * i * d + 65536 * w)) → rounded_fraction Floor t ≡ pos (65536 * i + 65536 * w / d)
 floor_position i d w t p =
     rounded_name t d _ p
     ∙ sym (rounded_from_rounds Floor _ (pos d) (pos (65536 * i + 65536 * w / d)) (at_most_in _ _ (omega (arith, ints, p.positive))) (
@@ -200,12 +195,46 @@ floor_position i d w t p =
       below_in _ _ (omega (arith, ints, lt-div-mul-add {a = 65536 * w} {b = d} p.positive)),
     ))
 
-pub looks_up_at : (values : List ℤ) (i d w : ℕ) (t : Fraction) → w ≤ d → Is t d (pos (65536 * i * d + 65536 * w)) → (if nat_lt (65536 * w / d) 32768 then value_at values i else value_at values (suc i)) ≡ curve_value LkUp values t
-unfolding curve_value
-looks_up_at values i d w t k p = near values i (65536 * w / d) inside ∙ ap (λ z. looked_up values (unsigned_abs z)) (sym (floor_position i d w t p))
-  where
-    product : 65536 * w / d * d ≤ 65536 * d
-    product = omega (arith, div-mul-le_self (65536 * w) d, k)
+-- a number is smaller where its product is
+pub smaller : (q k d : ℕ) → q * d < k * d → q < k
+smaller q k d h =
+    elim (cases_lt q k) [
+      | inl less ↦ less
+      | inr more ↦ absurd (omega (arith, h, mul-le-mul_right d more))
+    ]
 
-    inside : 65536 * w / d ≤ 65536
-    inside = le_of_mul-le-mul_right product p.positive
+-- the nearer point behind a whole segment
+nearer_behind : (i q : ℕ) (b : Bool) → q < 65536 → nat_lt q 32768 ≡ b → (if b then i else suc i) ≡ nearer_point (65536 * i + q)
+nearer_behind i q b less e =
+    let rest : (65536 * i + q) % 65536 ≡ q = omega (arith, less) in
+    let place : (65536 * i + q) / 65536 ≡ i = omega (arith, less) in
+    ap (λ b. if b then i else suc i) (sym e) ∙ ap₂ (λ m n. if nat_lt m 32768 then n else suc n) (sym rest) (sym place)
+
+-- the nearer point, by the part of the way
+nearer_by : (i d w q : ℕ) (a b : Bool) → w ≤ d → 1 ≤ d → q * d ≤ 65536 * w → 65536 * w < q * d + d → nat_lt (2 * w) d ≡ a → nat_lt w d ≡ b → (if a then i else suc i) ≡ nearer_point (65536 * i + q)
+nearer_by i d w q true b h some low high e f =
+    let half : 2 * w < d = grind (arith, nat_tests) in
+    let less : q < 32768 = smaller q 32768 d (omega (arith, half, low)) in
+    nearer_behind i q true (omega (arith, less)) (grind (arith, nat_tests))
+nearer_by i d w q false true h some low high e f =
+    let half : d ≤ 2 * w = grind (arith, nat_tests) in
+    let inside : w < d = grind (arith, nat_tests) in
+    let less : q < 65536 = smaller q 65536 d (omega (arith, inside, low)) in
+    let more : 32767 < q = smaller 32767 q d (omega (arith, half, high, some)) in
+    nearer_behind i q false less (grind (arith, nat_tests))
+nearer_by i d w q false false h some low high e f =
+    let all : w ≡ d = grind (arith, nat_tests) in
+    let less : q < 65537 = smaller q 65537 d (omega (arith, all, low, some)) in
+    let more : 65535 < q = smaller 65535 q d (omega (arith, all, high)) in
+    let end : q ≡ 65536 = omega (arith, less, more) in
+    let next : 65536 * i + q ≡ 65536 * suc i + 0 = omega (arith, end) in
+    nearer_behind (suc i) 0 true (omega arith) refl ∙ ap nearer_point (sym next)
+
+pub nearer : (i d w : ℕ) (t : Fraction) → w ≤ d → Is t d (pos (65536 * i * d + 65536 * w)) → (if nat_lt (2 * w) d then i else suc i) ≡ nearer_point (unsigned_abs (rounded_fraction Floor t))
+nearer i d w t k p =
+    nearer_by i d w (65536 * w / d) _ _ k p.positive (div-mul-le_self (65536 * w) d) (lt-div-mul-add {a = 65536 * w} {b = d} p.positive) refl refl
+    ∙ ap (λ z. nearer_point (unsigned_abs z)) (sym (floor_position i d w t p))
+
+pub looks_up : (values : List ℤ) (i d w : ℕ) (t : Fraction) → w ≤ d → Is t d (pos (65536 * i * d + 65536 * w)) → value_at values (if nat_lt (2 * w) d then i else suc i) ≡ curve_value LkUp values t
+unfolding curve_value looked_up
+looks_up values i d w t k p = ap (value_at values) (nearer i d w t k p)

@@ -8,7 +8,7 @@ use Rattle.ifx_search.specs.Axes.{first_place}
 use Rattle.ifx_search.specs.Positions.{position, position_value, way_in}
 use Rattle.ifx_curves.specs.declared.table.TableFault.TheVariants.{TooFew, OutOfType}
 use Rattle.ifx_curves.specs.Tables.{table_fault}
-use Rattle.ifx_curves.specs.Curves.{curve, curve_value, looked_up, on_way}
+use Rattle.ifx_curves.specs.Curves.{curve, curve_through, curve_value, looked_up, on_way}
 use Rattle.ifx_curves.specs.Slopes.{counts_of, greatest_of_steps, slope_of, steepest_of, step_of}
 
 -- an axis of 0, 10 and 30, and a table of 0, 100 and 50 over it
@@ -20,7 +20,7 @@ table = pos 0 ∷ pos 100 ∷ pos 50 ∷ []
 
 -- at 15, a quarter of the way from 100 to 50: 87.5 is rounded downward, and the nearer value is 100
 interpolated : curve_value Ipo table (position axis (whole (pos 15))) ≡ pos 87
-unfolding axis table curve_value curve on_way position way_in plus minus times divided quotient whole rounded
+unfolding axis table curve_value curve curve_through on_way position way_in plus minus times divided quotient whole rounded
 interpolated = refl
 
 nearer_value : curve_value LkUp table (position axis (whole (pos 15))) ≡ pos 100
@@ -29,7 +29,7 @@ nearer_value = refl
 
 -- the position of 15 is whole, so the curve there is the same
 interpolated_at_its_position : curve_value Ipo table (whole (position_value axis (pos 15))) ≡ pos 87
-unfolding axis table curve_value curve on_way position way_in plus minus times divided quotient whole rounded
+unfolding axis table curve_value curve curve_through on_way position way_in plus minus times divided quotient whole rounded
 interpolated_at_its_position = refl
 
 -- half way from 100 to 50 the upper value is looked up, and the last value at the last position
@@ -47,21 +47,21 @@ at_the_end = refl
 
 -- the end values hold outside the axis
 below_the_axis : curve_value Ipo table (position axis (whole (negsuc 4))) ≡ pos 0
-unfolding axis table curve_value curve on_way position way_in plus minus times divided quotient whole rounded
+unfolding axis table curve_value curve curve_through on_way position way_in plus minus times divided quotient whole rounded
 below_the_axis = refl
 
 above_the_axis : curve_value Ipo table (position axis (whole (pos 99))) ≡ pos 50
-unfolding axis table curve_value curve on_way position way_in plus minus times divided quotient whole rounded
+unfolding axis table curve_value curve curve_through on_way position way_in plus minus times divided quotient whole rounded
 above_the_axis = refl
 
 -- a value below 0 is rounded downward too: of -0.5
 minus_a_half : curve_value Ipo (negsuc 0 ∷ pos 0 ∷ []) (whole (pos 32768)) ≡ negsuc 0
-unfolding curve_value curve on_way plus minus times divided quotient whole rounded
+unfolding curve_value curve curve_through on_way plus minus times divided quotient whole rounded
 minus_a_half = refl
 
 -- a third of the way on the axis 0 and 3: at the input itself it is 1, and at its rounded position 0
 without_a_rounded_position : curve_value Ipo (pos 0 ∷ pos 3 ∷ []) (position (pos 0 ∷ pos 3 ∷ []) (whole (pos 1))) ≡ pos 1
-unfolding curve_value curve on_way position way_in plus minus times divided quotient whole rounded
+unfolding curve_value curve curve_through on_way position way_in plus minus times divided quotient whole rounded
 without_a_rounded_position = refl
 
 rounded_position : position_value (pos 0 ∷ pos 3 ∷ []) (pos 1) ≡ pos 21845
@@ -69,7 +69,7 @@ unfolding position way_in plus minus times divided quotient whole rounded
 rounded_position = refl
 
 at_a_rounded_position : curve_value Ipo (pos 0 ∷ pos 3 ∷ []) (whole (pos 21845)) ≡ pos 0
-unfolding curve_value curve on_way plus minus times divided quotient whole rounded
+unfolding curve_value curve curve_through on_way plus minus times divided quotient whole rounded
 at_a_rounded_position = refl
 
 -- the greatest step is the rise of 100, and the steepest slope 100 over 10

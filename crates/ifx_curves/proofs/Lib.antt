@@ -1,6 +1,6 @@
-mod CurvePoints
+pub mod CurvePoints
 mod Examples
 mod GreatestSteps
-mod Means
+pub mod Means
 mod PositionPoints
 mod TableFaults

@@ -1,5 +1,5 @@
 -- The exact position of a number, by the points round it.
-use Rattle.std.specs.Prelude.{◌≡◌, ℕ, zero, suc, ◌+◌, ◌*◌, ◌<◌, ◌≤◌, ℤ, pos, ◌-ℤ◌, ◌*ℤ◌, ◌≤ℤ◌, ◌<ℤ◌, unsigned_abs, Bool, true, false, if◌then◌else◌, List, [], ◌∷◌, length}
+use Rattle.std.specs.Prelude.{◌≡◌, ℕ, zero, suc, ◌+◌, ◌-◌, ◌*◌, ◌/◌, min, ◌<◌, ◌≤◌, ℤ, pos, ◌-ℤ◌, ◌*ℤ◌, ◌≤ℤ◌, ◌<ℤ◌, unsigned_abs, Bool, true, false, if◌then◌else◌, List, [], ◌∷◌, length}
 use Rattle.std.proofs.Common.{refl, sym, ap, ◌∙◌, subst, arith}
 use Rattle.std.proofs.lemmas.Int.{ints}
 use borrow.Author.Differences.{at_most_in, below_in, same_in}
@@ -58,6 +58,15 @@ whole_over f d e z some i = record { positive = some; equal = ap (λ t. t *ℤ p
   where
     swapped : (z : ℤ) (a b : ℕ) → z *ℤ pos a *ℤ pos b ≡ z *ℤ pos b *ℤ pos a
     swapped z a b = rw (as_difference z) (simp differences (same _ _ _ _ (omega arith)))
+
+-- a whole position, by the way behind a point
+pub is_whole_position : (t : ℤ) (i w : ℕ) → t ≡ pos (65536 * i + w) → Is (whole t) 65536 (pos (65536 * i * 65536 + 65536 * w))
+is_whole_position t i w e = renamed refl (ap (λ z. z *ℤ pos 65536) e ∙ ap pos (omega arith)) (is_whole t 65536 (omega arith))
+
+pub word_parts : (t s : ℤ) (i n : ℕ) → s ≡ t → pos 0 ≤ℤ t → i ≡ min (unsigned_abs s / 65536) n → t ≡ pos (65536 * i + (unsigned_abs s - 65536 * i))
+word_parts t s i n e h is =
+    let least : i ≤ unsigned_abs s / 65536 = omega (arith, is) in
+    omega (arith, ints, e, h, least)
 
 -- the length of segment i, and the way in it to x
 abbrev pub span_at : List ℤ → ℕ → ℕ

@@ -1,3 +1,4 @@
 pub mod Tables
 pub mod Curves
+pub mod Stretches
 pub mod Slopes

@@ -17,9 +17,13 @@ greatest_of_steps values (suc n) = max (greatest_of_steps values n) (step_at val
 abbrev pub step_of : List ℤ → ℕ
 step_of values = greatest_of_steps values (length values - 1)
 
+-- how far point i + 1 is from point i
+abbrev pub run_at : List ℤ → ℕ → ℕ
+run_at points i = unsigned_abs (point_at points (suc i) -ℤ point_at points i)
+
 -- the slope from point i to the next, without its sign
 abbrev pub slope_at : List ℤ → List ℤ → ℕ → Slope
-slope_at points values i = record { rise = step_at values i; run = unsigned_abs (point_at points (suc i) -ℤ point_at points i) }
+slope_at points values i = record { rise = step_at values i; run = run_at points i }
 
 -- the steeper of two slopes, and of equal ones the first
 abbrev pub steeper : Slope → Slope → Slope

@@ -1,8 +1,7 @@
 // How steep a curve is.
 
 ghost use Rattle.std.specs.Prelude.{◌≡◌, ◌<◌, length, pos, suc};
-ghost use Rattle.ifx_search.specs.Axes.{IsAxis};
-ghost use Rattle.ifx_curves.specs.Slopes.{counts_of, slope_at, slope_of, step_at, step_of, steeper};
+ghost use Rattle.ifx_curves.specs.Slopes.{counts_of, run_at, slope_at, slope_of, step_at, step_of, steeper};
 
 use crate::table::Table;
 use ifx_search::Axis;
@@ -42,17 +41,25 @@ pub fn greatest_slope(axis: &Axis, table: &Table) -> (i64, i64)
 
 // The slope from point `i` to the next one.
 fn segment_slope(axis: &Axis, table: &Table, i: u32) -> Slope
-    requires axis { IsAxis axis.now.ty axis.now.points }
     requires lengths { length axis.now.points ≡ length table.now.values }
     requires bound { suc i < length table.now.values }
     ensures { result ≡ slope_at axis.now.points table.now.values i }
 {
-    let low = axis.point(i);
-    let high = axis.point(i + 1);
     Slope {
         rise: step(table, i),
-        run: high.abs_diff(low) as u32,
+        run: run(axis, i),
     }
+}
+
+/// The length of the segment from point number `i` of an axis to the next one, a raw count.
+pub fn run(axis: &Axis, i: u32) -> u32
+    requires { suc i < length axis.now.points }
+    ensures { result ≡ run_at axis.now.points i }
+{
+    prove!(axis.len() > i + 1);
+    let low = axis.point(i);
+    let high = axis.point(i + 1);
+    high.abs_diff(low) as u32
 }
 
 // How far value `i + 1` is from value `i`.
@@ -65,8 +72,8 @@ fn step(table: &Table, i: u32) -> u32
     high.abs_diff(low) as u32
 }
 
-// The steeper of two slopes, and of equal ones the first.
-fn steeper(first: Slope, second: Slope) -> Slope
+/// The steeper of two slopes, and of equal ones the first.
+pub fn steeper(first: Slope, second: Slope) -> Slope
     ensures { result ≡ steeper first second }
 {
     let first_product = u64::from(first.rise) * u64::from(second.run);

@@ -104,9 +104,9 @@ fn fault_of(ty: Ty, values: &[i64]) -> Option<TableFault>
     }
 }
 
-// The number of the first value that is no number of the type.
-fn first_outside(ty: Ty, values: &[i64]) -> Option<u32>
-    requires { length values.now ≤ 4096 }
+/// The number of the first value that is no number of the type, from 0.
+pub fn first_outside(ty: Ty, values: &[i64]) -> Option<u32>
+    requires { length values.now ≤ 65536 }
     ensures { result ≡ first_place (is_outside ty values.now) 0 (length values.now) }
 {
     for i in 0..values.len() {

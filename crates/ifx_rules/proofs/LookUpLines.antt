@@ -5,12 +5,13 @@ use native.Mathlib.Nat.{mul-pos}
 use Rattle.std.proofs.lemmas.Int.{ints}
 use Rattle.fx_fraction.specs.Fraction.{Fraction, denom, whole, plus, minus, times, divided, AtMost, Same, Is}
 use Rattle.fx_fraction.proofs.Polynomials.{differences, as_difference, same}
-use Rattle.fx_fraction.proofs.WholeNumbers.{int_le-true, int_le-false, int_le_of-lt, int_mul-one, int_sub-mul, int_add-mul}
+use Rattle.fx_fraction.proofs.WholeNumbers.{int_le-true, int_le-false, int_le_of-lt, int_sub-mul, int_add-mul}
 use lib.Signed.{clash_ℤ}
 use Rattle.fx_fraction.proofs.Denominators.{is_self, is_whole, is_plus, is_minus, is_times, is_divided, is_renamed, is_same, Same-in, Same-in_cross, AtMost-in, AtMost-out}
 use Rattle.fx_fraction.proofs.Order.{Same_refl, Same_trans, AtMost_refl}
 use Rattle.ifx_search.specs.Positions.{is_at_most, way_in, position}
-use Rattle.ifx_curves.specs.Curves.{on_way, curve}
+use Rattle.ifx_curves.specs.Curves.{on_way, curve, curve_through}
+use Rattle.ifx_curves.proofs.CurvePoints.{is_on_way_of_values}
 use Rattle.ifx_rules.proofs.Lines.{Knot, between, line}
 use Rattle.ifx_rules.proofs.Slopes.{Spans, on_between, int_le_test, at_itself}
 
@@ -92,17 +93,8 @@ test_moved s t z c false true l p q = clash_ℤ (int_le-false _ _ p) (AtMost-out
 spans_next : (z v w : ℤ) → Spans (record { place = z; height = v }) (record { place = z +ℤ pos 65536; height = w }) 65536
 spans_next z v w = record { some = omega arith; long = next_up z }
 
--- the way from v to w, over any denominator
-is_on_way : (v w : ℤ) {s : Fraction} {d : ℕ} {x : ℤ} → Is s d x → Is (on_way v w s) (65536 * d) (v *ℤ pos (65536 * d) +ℤ (w -ℤ v) *ℤ x)
-unfolding on_way
-is_on_way v w {s} {d} {x} i =
-    let some : 1 ≤ 65536 * d = mul-pos (omega arith) i.positive in
-    let rise = is_renamed (omega arith) (is_times (is_whole (w -ℤ v) 1 (omega arith)) i) in
-    let run : Is (whole (pos 65536)) d (pos (65536 * d)) = is_whole (pos 65536) d i.positive in
-    subst (λ r. Is (plus (whole v) (divided (times (whole (w -ℤ v)) s) (whole (pos 65536)))) (65536 * d) (v *ℤ pos (65536 * d) +ℤ r *ℤ x)) (int_mul-one (w -ℤ v)) (is_plus (is_whole v (65536 * d) some) (is_divided some rise run))
-
-way_on_segment : (z v w : ℤ) (s t : Fraction) → IsLess s t z → Same (on_way v w s) (between (record { place = z; height = v }) (record { place = z +ℤ pos 65536; height = w }) t)
-way_on_segment z v w s t l = Same-in (is_on_way v w (over_place l)) (on_between (spans_next z v w) (is_self t)).is refl
+way_on_segment : (z v w : ℤ) (s t : Fraction) → IsLess s t z → Same (on_way (whole v) (whole w) s) (between (record { place = z; height = v }) (record { place = z +ℤ pos 65536; height = w }) t)
+way_on_segment z v w s t l = Same-in (is_on_way_of_values v w (over_place l)) (on_between (spans_next z v w) (is_self t)).is refl
 
 less_further : (t z : ℤ) (d : ℕ) → t -ℤ z *ℤ pos d -ℤ pos 65536 *ℤ pos d ≡ t -ℤ (z +ℤ pos 65536) *ℤ pos d
 less_further t z d = rw (as_difference t, as_difference z) (simp differences (same _ _ _ _ (omega arith)))
@@ -113,7 +105,7 @@ further s t z l =
     record { less = Same-in (is_minus (over_place l) (is_whole (pos 65536) (denom t) i.positive)) (is_minus i (is_whole (z +ℤ pos 65536) (denom t) i.positive)) (less_further t.numer z (denom t)) }
 
 curve_step : (z v w : ℤ) (s t f g : Fraction) (a b : Bool) → IsLess s t z → Same f g →
-    Same (cond a (whole v) (cond b (on_way v w s) f)) (cond a (whole v) (cond b (between (record { place = z; height = v }) (record { place = z +ℤ pos 65536; height = w }) t) g))
+    Same (cond a (whole v) (cond b (on_way (whole v) (whole w) s) f)) (cond a (whole v) (cond b (between (record { place = z; height = v }) (record { place = z +ℤ pos 65536; height = w }) t) g))
 curve_step z v w s t f g true b l n = Same_refl (whole v)
 curve_step z v w s t f g false true l n = way_on_segment z v w s t l
 curve_step z v w s t f g false false l n = n
@@ -122,7 +114,7 @@ test_here : (s t : Fraction) (z : ℤ) → IsLess s t z → is_at_most s (pos 0)
 test_here s t z l = test_moved s t z (pos 0) _ _ l refl refl ∙ ap (is_at_most t) (omega (arith, ints))
 
 curve_line_from : (z v : ℤ) (values : List ℤ) (s t : Fraction) → IsLess s t z → Same (curve (v ∷ values) s) (line (curve_knots z (v ∷ values)) t)
-unfolding curve line
+unfolding curve curve_through line
 curve_line_from z v [] s t l = Same_refl (whole v)
 curve_line_from z v (w ∷ values) s t l =
     subst (Same (curve (v ∷ w ∷ values) s))
@@ -203,12 +195,12 @@ on_way_step : (v r a : ℤ) (n : ℕ) → (v *ℤ pos (65536 * n) +ℤ r *ℤ (p
 on_way_step v r a n = rw (as_difference v, as_difference r, as_difference a) (simp differences (same _ _ _ _ (omega arith)))
 
 -- in a segment of positive length the curve at the way in is the line of the segment
-on_way_between : (p q v w : ℤ) (x : Fraction) → p <ℤ q → Same (on_way v w (way_in p q x)) (between (record { place = p; height = v }) (record { place = q; height = w }) x)
+on_way_between : (p q v w : ℤ) (x : Fraction) → p <ℤ q → Same (on_way (whole v) (whole w) (way_in p q x)) (between (record { place = p; height = v }) (record { place = q; height = w }) x)
 on_way_between p q v w x h =
     let t = rising_span p q v w h in
     let i = is_self x in
     let g = unsigned_abs (q -ℤ p) in
-    Same-in_cross (is_on_way v w (is_way_in p q t.some t.long i)) (on_between t i).is (on_way_step v (w -ℤ v) (x.numer -ℤ p *ℤ pos (denom x)) (g * denom x))
+    Same-in_cross (is_on_way_of_values v w (is_way_in p q t.some t.long i)) (on_between t i).is (on_way_step v (w -ℤ v) (x.numer -ℤ p *ℤ pos (denom x)) (g * denom x))
 
 -- ---- past a segment
 
@@ -242,17 +234,17 @@ beyond_nothing s h =
     not_at_most (plus (whole (pos 65536)) s) (pos 0) (is_plus (is_whole (pos 65536) (denom s) i.positive) i)
     (beyond_step s.numer (denom s) i.positive (AtMost-out (is_whole (pos 0) (denom s) i.positive) i h))
 
-at_the_end : (v w : ℤ) (s : Fraction) → AtMost (whole (pos 0)) s → is_at_most s (pos 0) ≡ true → Same (on_way v w (plus (whole (pos 65536)) s)) (whole w)
+at_the_end : (v w : ℤ) (s : Fraction) → AtMost (whole (pos 0)) s → is_at_most s (pos 0) ≡ true → Same (on_way (whole v) (whole w) (plus (whole (pos 65536)) s)) (whole w)
 at_the_end v w s h k =
     let i = is_self s in
     let d = denom s in
-    Same-in (is_on_way v w (is_plus (is_whole (pos 65536) d i.positive) i)) (is_whole w (65536 * d) (mul-pos (omega arith) i.positive))
+    Same-in (is_on_way_of_values v w (is_plus (is_whole (pos 65536) d i.positive) i)) (is_whole w (65536 * d) (mul-pos (omega arith) i.positive))
     (all_way v w s.numer d (AtMost-out (is_whole (pos 0) d i.positive) i h) (int_le-true _ _ k))
 
 curve_start : (w : ℤ) (values : List ℤ) (s : Fraction) → is_at_most s (pos 0) ≡ true → curve (w ∷ values) s ≡ whole w
-unfolding curve
+unfolding curve curve_through
 curve_start w [] s h = refl
-curve_start w (u ∷ values) s h = ap (λ t. cond t (whole w) (cond (is_at_most s (pos 65536)) (on_way w u s) (curve (u ∷ values) (minus s (whole (pos 65536)))))) h
+curve_start w (u ∷ values) s h = ap (λ t. cond t (whole w) (cond (is_at_most s (pos 65536)) (on_way (whole w) (whole u) s) (curve (u ∷ values) (minus s (whole (pos 65536)))))) h
 
 back_again : (s : Fraction) → Same (minus (plus (whole (pos 65536)) s) (whole (pos 65536))) s
 back_again s =
@@ -261,17 +253,17 @@ back_again s =
     Same-in (is_minus (is_plus m i) m) i (omega (arith, ints))
 
 past_one : (v w : ℤ) (values : List ℤ) (s : Fraction) (b : Bool) → AtMost (whole (pos 0)) s → is_at_most (plus (whole (pos 65536)) s) (pos 65536) ≡ b →
-    Same (cond b (on_way v w (plus (whole (pos 65536)) s)) (curve (w ∷ values) (minus (plus (whole (pos 65536)) s) (whole (pos 65536))))) (curve (w ∷ values) s)
+    Same (cond b (on_way (whole v) (whole w) (plus (whole (pos 65536)) s)) (curve (w ∷ values) (minus (plus (whole (pos 65536)) s) (whole (pos 65536))))) (curve (w ∷ values) s)
 past_one v w values s true h k =
     let none = shifted_end s h k in
-    subst (Same (on_way v w (plus (whole (pos 65536)) s))) (sym (curve_start w values s none)) (at_the_end v w s h none)
+    subst (Same (on_way (whole v) (whole w) (plus (whole (pos 65536)) s))) (sym (curve_start w values s none)) (at_the_end v w s h none)
 past_one v w values s false h k = curve_same w values (minus (plus (whole (pos 65536)) s) (whole (pos 65536))) s (back_again s)
 
 shifted : (v w : ℤ) (values : List ℤ) (s : Fraction) → AtMost (whole (pos 0)) s → Same (curve (v ∷ w ∷ values) (plus (whole (pos 65536)) s)) (curve (w ∷ values) s)
-unfolding curve
+unfolding curve curve_through
 shifted v w values s h =
     let t = plus (whole (pos 65536)) s in
-    subst (λ a. Same (cond a (whole v) (cond (is_at_most t (pos 65536)) (on_way v w t) (curve (w ∷ values) (minus t (whole (pos 65536)))))) (curve (w ∷ values) s))
+    subst (λ a. Same (cond a (whole v) (cond (is_at_most t (pos 65536)) (on_way (whole v) (whole w) t) (curve (w ∷ values) (minus t (whole (pos 65536)))))) (curve (w ∷ values) s))
     (sym (beyond_nothing s h)) (past_one v w values s _ h refl)
 
 -- ---- no position is negative
@@ -306,17 +298,17 @@ position_least (p ∷ q ∷ points) x r = least_step p q x (position (q ∷ poin
 
 pair_step : (p q v w : ℤ) (values : List ℤ) (x s g : Fraction) (a b : Bool) → p <ℤ q → is_at_most x p ≡ a → is_at_most x q ≡ b → AtMost (whole (pos 0)) s → Same (curve (w ∷ values) s) g →
     Same (curve (v ∷ w ∷ values) (cond a (whole (pos 0)) (cond b (way_in p q x) (plus (whole (pos 65536)) s)))) (cond a (whole v) (cond b (between (record { place = p; height = v }) (record { place = q; height = w }) x) g))
-unfolding curve
+unfolding curve curve_through
 pair_step p q v w values x s g true b h k l n e = same_of (curve (v ∷ w ∷ values) (whole (pos 0))) (whole v) (curve_start v (w ∷ values) (whole (pos 0)) (at_itself (pos 0)))
 pair_step p q v w values x s g false true h k l n e =
     let t = way_in p q x in
-    subst (λ c. Same (cond c (whole v) (cond (is_at_most t (pos 65536)) (on_way v w t) (curve (w ∷ values) (minus t (whole (pos 65536)))))) (between (record { place = p; height = v }) (record { place = q; height = w }) x))
+    subst (λ c. Same (cond c (whole v) (cond (is_at_most t (pos 65536)) (on_way (whole v) (whole w) t) (curve (w ∷ values) (minus t (whole (pos 65536)))))) (between (record { place = p; height = v }) (record { place = q; height = w }) x))
     (sym (way_positive p q x h k))
-    (subst (λ c. Same (cond c (on_way v w t) (curve (w ∷ values) (minus t (whole (pos 65536))))) (between (record { place = p; height = v }) (record { place = q; height = w }) x)) (sym (way_whole p q x h l)) (on_way_between p q v w x h))
+    (subst (λ c. Same (cond c (on_way (whole v) (whole w) t) (curve (w ∷ values) (minus t (whole (pos 65536))))) (between (record { place = p; height = v }) (record { place = q; height = w }) x)) (sym (way_whole p q x h l)) (on_way_between p q v w x h))
 pair_step p q v w values x s g false false h k l n e = Same_trans (curve (v ∷ w ∷ values) (plus (whole (pos 65536)) s)) (curve (w ∷ values) s) g (shifted v w values s n) e
 
 pub pair_line : (p v : ℤ) (points values : List ℤ) (x : Fraction) → DoRise (p ∷ points) → Same (curve (v ∷ values) (position (p ∷ points) x)) (line (pair_knots (p ∷ points) (v ∷ values)) x)
-unfolding curve position line
+unfolding curve curve_through position line
 pair_line p v [] [] x r = Same_refl (whole v)
 pair_line p v [] (w ∷ values) x r = same_of (curve (v ∷ w ∷ values) (whole (pos 0))) (whole v) (curve_start v (w ∷ values) (whole (pos 0)) (at_itself (pos 0)))
 pair_line p v (q ∷ points) [] x r = Same_refl (whole v)

@@ -6,10 +6,10 @@ use native.Mathlib.Nat.{mul-pos}
 use Rattle.std.proofs.lemmas.Bool.{cases_lt}
 use Rattle.std.proofs.lemmas.Int.{ints}
 use Rattle.std.proofs.lemmas.List.{get_or_past}
-use Rattle.fx_fraction.specs.Fraction.{Fraction, denom, whole, plus, minus, times, divided, Is}
+use Rattle.fx_fraction.specs.Fraction.{Fraction, denom, whole, plus, minus, Is}
 use Rattle.fx_fraction.proofs.Denominators.{is_self, is_whole, is_plus, is_minus, is_times, is_divided, is_renamed, AtMost-in, AtMost-out}
 use Rattle.fx_fraction.proofs.Polynomials.{differences, as_difference, same}
-use Rattle.fx_fraction.proofs.WholeNumbers.{int_add-mul, int_is_natural, int_le-false, int_le-mul_pos, int_le-pos, int_le-true, int_le_trans, int_mul-one, int_sub-mul}
+use Rattle.fx_fraction.proofs.WholeNumbers.{int_add-mul, int_is_natural, int_le-false, int_le-mul_pos, int_le-pos, int_le-true, int_le_trans, int_sub-mul}
 use Rattle.fx_core.specs.declared.quotient.Mode.TheVariants.{Floor}
 use Rattle.fx_core.specs.declared.word_type.Ty.{Ty}
 use Rattle.fx_core.specs.declared.word_type.Ty.TheVariants.{U8, S8, U16, S16, U32, S32}
@@ -20,7 +20,8 @@ use Rattle.fx_routines.specs.declared.interpolation.CurveOp.{CurveOp}
 use Rattle.fx_routines.specs.declared.interpolation.CurveOp.TheVariants.{Ipo, LkUp}
 use Rattle.ifx_search.specs.Axes.{IsAxis, point_at}
 use Rattle.ifx_search.specs.Positions.{is_at_most, position, position_value, way_in}
-use Rattle.ifx_curves.specs.Curves.{curve, curve_value, looked_up, on_way}
+use Rattle.ifx_curves.specs.Curves.{curve, curve_through, curve_value, looked_up, nearer_point, on_way}
+use Rattle.ifx_curves.proofs.CurvePoints.{is_on_way_of_values}
 use Rattle.ifx_curves.specs.Tables.{IsTable, value_at}
 
 -- ---- fractions between two whole numbers
@@ -119,15 +120,6 @@ position_held ty points x axis =
 
 -- ---- curves
 
--- the way from v to w, over any denominator
-is_on_way : (v w : ℤ) {s : Fraction} {d : ℕ} {x : ℤ} → Is s d x → Is (on_way v w s) (65536 * d) (v *ℤ pos (65536 * d) +ℤ (w -ℤ v) *ℤ x)
-unfolding on_way
-is_on_way v w {s} {d} {x} i =
-    let some : 1 ≤ 65536 * d = mul-pos (omega arith) i.positive in
-    let rise = is_renamed (omega arith) (is_times (is_whole (w -ℤ v) 1 (omega arith)) i) in
-    let run : Is (whole (pos 65536)) d (pos (65536 * d)) = is_whole (pos 65536) d i.positive in
-    subst (λ r. Is (plus (whole v) (divided (times (whole (w -ℤ v)) s) (whole (pos 65536)))) (65536 * d) (v *ℤ pos (65536 * d) +ℤ r *ℤ x)) (int_mul-one (w -ℤ v)) (is_plus (is_whole v (65536 * d) some) (is_divided some rise run))
-
 -- as a mean with weights
 weighted : (v w : ℤ) (r n : ℕ) → v *ℤ pos (r + n) +ℤ (w -ℤ v) *ℤ pos n ≡ v *ℤ pos r +ℤ w *ℤ pos n
 weighted v w r n = rw (as_difference v, as_difference w) (simp differences (same _ _ _ _ (omega arith)))
@@ -143,7 +135,7 @@ mean_below : (high v w : ℤ) (r n : ℕ) → v ≤ℤ high → w ≤ℤ high �
 mean_below high v w r n h k =
     rw (weighted v w r n, spread high r n) (omega (arith, ints, int_le-mul_pos v high r h, int_le-mul_pos w high n k))
 
-on_way_between : (ty : Ty) (v w : ℤ) (t : Fraction) → Holds ty v → Holds ty w → is_at_most t (pos 0) ≡ false → is_at_most t (pos 65536) ≡ true → IsBetween (least_of ty) (greatest_of ty) (on_way v w t)
+on_way_between : (ty : Ty) (v w : ℤ) (t : Fraction) → Holds ty v → Holds ty w → is_at_most t (pos 0) ≡ false → is_at_most t (pos 65536) ≡ true → IsBetween (least_of ty) (greatest_of ty) (on_way (whole v) (whole w) t)
 on_way_between ty v w t h k above below =
     let d = denom t in
     let low : pos 0 ≤ℤ t.numer = at_zero t.numer d (int_le-false _ _ above) in
@@ -156,12 +148,12 @@ on_way_between ty v w t h k above below =
     parts : (z : ℤ) (d : ℕ) → pos 0 ≤ℤ z → z ≤ℤ (pos 65536 *ℤ pos d) → 65536 * d ≡ 65536 * d - unsigned_abs z + unsigned_abs z
     parts z d h k = omega (arith, ints, h, k)
 
-    by_way : (d n r : ℕ) → 65536 * d ≡ r + n → Is t d (pos n) → IsBetween (least_of ty) (greatest_of ty) (on_way v w t)
+    by_way : (d n r : ℕ) → 65536 * d ≡ r + n → Is t d (pos n) → IsBetween (least_of ty) (greatest_of ty) (on_way (whole v) (whole w) t)
     by_way d n r e i =
-        let at : Is (on_way v w t) (r + n) (v *ℤ pos (r + n) +ℤ (w -ℤ v) *ℤ pos n) = subst (λ m. Is (on_way v w t) m (v *ℤ pos m +ℤ (w -ℤ v) *ℤ pos n)) e (is_on_way v w i) in
+        let at : Is (on_way (whole v) (whole w) t) (r + n) (v *ℤ pos (r + n) +ℤ (w -ℤ v) *ℤ pos n) = subst (λ m. Is (on_way (whole v) (whole w) t) m (v *ℤ pos m +ℤ (w -ℤ v) *ℤ pos n)) e (is_on_way_of_values v w i) in
         between_by (least_of ty) (greatest_of ty) at (mean_above (least_of ty) v w r n h.0 k.0) (mean_below (greatest_of ty) v w r n h.1 k.1)
 
-stretch_between : (ty : Ty) (v w : ℤ) (t f : Fraction) (a b : Bool) → Holds ty v → Holds ty w → is_at_most t (pos 0) ≡ a → is_at_most t (pos 65536) ≡ b → IsBetween (least_of ty) (greatest_of ty) f → IsBetween (least_of ty) (greatest_of ty) (cond a (whole v) (cond b (on_way v w t) f))
+stretch_between : (ty : Ty) (v w : ℤ) (t f : Fraction) (a b : Bool) → Holds ty v → Holds ty w → is_at_most t (pos 0) ≡ a → is_at_most t (pos 65536) ≡ b → IsBetween (least_of ty) (greatest_of ty) f → IsBetween (least_of ty) (greatest_of ty) (cond a (whole v) (cond b (on_way (whole v) (whole w) t) f))
 stretch_between ty v w t f true b h k p q rest = whole_between (least_of ty) (greatest_of ty) v h.0 h.1
 stretch_between ty v w t f false true h k p q rest = on_way_between ty v w t h k p q
 stretch_between ty v w t f false false h k p q rest = rest
@@ -171,7 +163,7 @@ abbrev AreOf : Ty → List ℤ → Type 0
 AreOf ty values = (i : ℕ) → i < length values → Holds ty (value_at values i)
 
 curve_between : (ty : Ty) (values : List ℤ) (t : Fraction) → 1 ≤ length values → AreOf ty values → IsBetween (least_of ty) (greatest_of ty) (curve values t)
-unfolding curve
+unfolding curve curve_through
 curve_between ty [] t some held = absurd (omega (arith, some))
 curve_between ty (v ∷ []) t some held = let h = held 0 (omega arith) in whole_between (least_of ty) (greatest_of ty) v h.0 h.1
 curve_between ty (v ∷ w ∷ values) t some held =
@@ -194,13 +186,9 @@ place_held ty values i held =
       | inr past ↦ subst (Holds ty) (sym (get_or_past values i (pos 0) past)) (zero_held ty)
     ]
 
-either_held : (ty : Ty) (v w : ℤ) (b : Bool) → Holds ty v → Holds ty w → Holds ty (cond b v w)
-either_held ty v w true h k = h
-either_held ty v w false h k = k
-
 looked_up_held : (ty : Ty) (values : List ℤ) (n : ℕ) → AreOf ty values → Holds ty (looked_up values n)
 unfolding looked_up
-looked_up_held ty values n held = either_held ty _ _ _ (place_held ty values _ held) (place_held ty values _ held)
+looked_up_held ty values n held = place_held ty values (nearer_point n) held
 
 -- the value of a curve through a table, at any position
 pub curve_held : (op : CurveOp) (ty : Ty) (values : List ℤ) (t : Fraction) → IsTable ty values → Holds ty (curve_value op values t)

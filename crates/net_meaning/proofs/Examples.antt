@@ -8,7 +8,7 @@ use Rattle.fx_routines.specs.declared.operation.ArithOp.TheVariants.{Add}
 use Rattle.fx_routines.specs.declared.operation.ScaledOp.TheVariants.{Convert}
 use Rattle.fx_routines.specs.declared.interpolation.CurveOp.TheVariants.{Ipo}
 use Rattle.ifx_search.specs.Positions.{position, way_in}
-use Rattle.ifx_curves.specs.Curves.{curve, on_way}
+use Rattle.ifx_curves.specs.Curves.{curve, curve_through, on_way}
 use Rattle.net_model.specs.declared.wires.Kind.TheVariants.{Num, Position}
 use Rattle.net_model.specs.declared.wires.Block.TheVariants.{Arith, Scaled, Pt1, Search, Curve, IntCurve}
 use Rattle.net_model.specs.declared.wires.Item.TheVariants.{Input, Delay, Block as OfBlock}
@@ -87,10 +87,10 @@ fifteen = (pos 15 ∷ []) ∷ []
 
 -- 15 is a quarter of the way from 10 to 30, and 87.5 is rounded downward
 look_up_values : map (map (λ c. c.value)) (table machine looking fifteen) ≡ (pos 15 ∷ pos 81920 ∷ pos 87 ∷ pos 87 ∷ []) ∷ []
-unfolding looking fifteen table row_of equation_of machine machine_cell machine_state_of formula state_formula quotient_of position way_in curve on_way rounded whole over plus minus times quotient divided
+unfolding looking fifteen table row_of equation_of machine machine_cell machine_state_of formula state_formula quotient_of position way_in curve curve_through on_way rounded whole over plus minus times quotient divided
 look_up_values = refl
 
 -- exactly it is 87.5
 exact_look_up : Same (cell_at exact (table exact looking fifteen) 0 2).value (over (pos 175) 2)
-unfolding looking fifteen table row_of equation_of exact exact_cell formula state_formula quotient_of position way_in curve on_way whole over plus minus times quotient divided
+unfolding looking fifteen table row_of equation_of exact exact_cell formula state_formula quotient_of position way_in curve curve_through on_way whole over plus minus times quotient divided
 exact_look_up = refl

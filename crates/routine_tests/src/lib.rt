@@ -17,6 +17,8 @@ mod curves;
 #[cfg(test)]
 mod filters;
 #[cfg(test)]
+mod maps;
+#[cfg(test)]
 mod rounding;
 #[cfg(test)]
 mod routine_names;

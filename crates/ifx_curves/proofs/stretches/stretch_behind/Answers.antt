@@ -6,8 +6,8 @@ use Rattle.ifx_search.proofs.Ways.{nearer, next, plain, way_of}
 use Rattle.ifx_curves.proofs.PositionPoints.{is_position}
 use Rattle.ifx_curves.proofs.stretches.stretch_behind.Goals as goal
 
-pub returns-clause-end : goal.returns-clause-end
-returns-clause-end c =
+pub invariant_of-result-clause-end : goal.invariant_of-result-clause-end
+invariant_of-result-clause-end c =
     let x = plain c.args.x c.ranges.x in
     let low = plain c.point-low.result (record { sfits = c.point-low.type_inv }) in
     let high = plain c.point-high.result (record { sfits = c.point-high.type_inv }) in

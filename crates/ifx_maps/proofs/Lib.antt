@@ -1,0 +1,5 @@
+mod Examples
+mod GreatestSteps
+mod MapFaults
+mod SurfacePoints
+mod WeightedValues
