@@ -1,3 +1,7 @@
+pub mod PartPlaces
+pub mod HeldWithin
+pub mod CertificateSteps
+pub mod CertificateLaws
 pub mod Findings
 pub mod RejectedPlaces
 pub mod Verdicts

@@ -1,10 +1,10 @@
 -- What reading a certificate's text gives.
 use Rattle.std.specs.Prelude.{◌≡◌, ℕ, List, Result, Ok, Err}
 use Rattle.part_rules.specs.declared.bounds.Bounds.{Bounds}
-use Rattle.bench_core.specs.declared.cert_kind.CertFault.{CertFault}
-use Rattle.bench_core.specs.declared.cert_kind.CertError.{CertError}
-use Rattle.bench_core.specs.declared.cert_kind.CertError.TheVariants.{Fault, OutOfMemory}
-use Rattle.bench_core.specs.CertificateText.{certificate_of}
+use Rattle.cert_checker.specs.declared.faults.CertFault.{CertFault}
+use Rattle.cert_checker.specs.declared.faults.CertError.{CertError}
+use Rattle.cert_checker.specs.declared.faults.CertError.TheVariants.{Fault, OutOfMemory}
+use Rattle.cert_checker.specs.CertificateText.{certificate_of}
 use Rattle.net_model.specs.Wires.{NetData}
 
 -- entries, or a fault, are what is wanted, unless memory runs out

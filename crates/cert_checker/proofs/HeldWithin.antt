@@ -4,9 +4,9 @@ use Rattle.std.specs.Prelude.{ok_or}
 use Rattle.std.proofs.lemmas.Bool.{and_parts}
 use Rattle.text_words.specs.Numbers.{number_of, held}
 use Rattle.text_words.proofs.Held.{held_least, held_most, held_between, tested_held}
-use Rattle.bench_core.specs.declared.cert_kind.CertKind.{CertKind}
-use Rattle.bench_core.specs.declared.cert_kind.CertKind.TheVariants.{BadNumber}
-use Rattle.bench_core.specs.CertificateText.{number_within}
+use Rattle.cert_checker.specs.declared.faults.CertKind.{CertKind}
+use Rattle.cert_checker.specs.declared.faults.CertKind.TheVariants.{BadNumber}
+use Rattle.cert_checker.specs.CertificateText.{number_within}
 use Rattle.text_words.specs.Steps.{◌>>=◌, demand}
 
 -- the number between two ends, if it is there

@@ -7,9 +7,9 @@ use Rattle.text_words.specs.Steps.{◌>>=◌}
 use Rattle.text_words.proofs.ReaderSteps.{read_below-next, read_below-fault, read_below-complete, read_below-incomplete}
 use Rattle.net_model.specs.Wires.{NetData, parts_of}
 use Rattle.part_rules.specs.declared.bounds.Bounds.{Bounds}
-use Rattle.bench_core.specs.declared.cert_kind.CertKind.{CertKind}
-use Rattle.bench_core.specs.declared.cert_kind.CertKind.TheVariants.{Missing}
-use Rattle.bench_core.specs.CertificateText.{part_line, certificate_reader}
+use Rattle.cert_checker.specs.declared.faults.CertKind.{CertKind}
+use Rattle.cert_checker.specs.declared.faults.CertKind.TheVariants.{Missing}
+use Rattle.cert_checker.specs.CertificateText.{part_line, certificate_reader}
 
 -- what a line was read as, seen with the entries so far
 seen : (net : NetData) (k : ℕ) (entries : List Bounds) (words : List (List ℕ)) (read : Result Bounds CertKind) → k ≡ length entries → read ≡ part_line net k words → part_line net (length entries) words ≡ read

@@ -2,10 +2,10 @@ use Rattle.std.proofs.Common.{◌≡◌, ◌≢◌, ◌+◌, ◌<◌, ◌∙◌,
 use Rattle.text_words.specs.Lines.{lines_from, words_of}
 use Rattle.text_words.specs.Readers.{read_below}
 use Rattle.text_words.proofs.ReaderSteps.{read_below-blank}
-use Rattle.bench_core.specs.CertificateText.{certificate_reader}
-use Rattle.bench_core.proofs.CertificateSteps.{line-accepted, line-refused, end-complete, end-missing}
-use Rattle.bench_core.proofs.CertificateLaws.{few_entries}
-use Rattle.bench_core.proofs.cert_reader.entries_below.Goals as goal
+use Rattle.cert_checker.specs.CertificateText.{certificate_reader}
+use Rattle.cert_checker.proofs.CertificateSteps.{line-accepted, line-refused, end-complete, end-missing}
+use Rattle.cert_checker.proofs.CertificateLaws.{few_entries}
+use Rattle.cert_checker.proofs.reader.entries_below.Goals as goal
 
 -- a line without words
 pub loop-line-preserved : goal.loop-line-preserved

@@ -3,8 +3,8 @@
 use Rattle.std.proofs.Common.{◌≡◌, ◌+◌, ◌<◌, ◌^◌, [], length}
 use Rattle.text_words.specs.Lines.{lines_from}
 use Rattle.text_words.specs.Readers.{read_below}
-use Rattle.bench_core.specs.CertificateText.{certificate_reader}
-use Rattle.bench_core.proofs.cert_reader.entries_below.Given as goal
+use Rattle.cert_checker.specs.CertificateText.{certificate_reader}
+use Rattle.cert_checker.proofs.reader.entries_below.Given as goal
 
 abbrev pub invariant-loop-line : goal.invariant-loop-line
 invariant-loop-line l = record {

@@ -7,10 +7,10 @@ use Rattle.text_words.specs.Numbers.{number_of}
 use Rattle.net_model.specs.Wires.{NetData, parts_of}
 use Rattle.text_words.specs.Steps.{◌>>=◌, demand}
 use Rattle.part_rules.specs.declared.bounds.Bounds.{Bounds}
-use Rattle.bench_core.specs.declared.cert_kind.CertKind.{CertKind}
-use Rattle.bench_core.specs.declared.cert_kind.CertKind.TheVariants.{NoHead, BadLine, WrongPart, BadNumber, EmptyRange, Missing}
-use Rattle.bench_core.specs.declared.cert_kind.CertFault.{CertFault}
-use Rattle.bench_core.specs.PartNames.{part_name}
+use Rattle.cert_checker.specs.declared.faults.CertKind.{CertKind}
+use Rattle.cert_checker.specs.declared.faults.CertKind.TheVariants.{NoHead, BadLine, WrongPart, BadNumber, EmptyRange, Missing}
+use Rattle.cert_checker.specs.declared.faults.CertFault.{CertFault}
+use Rattle.cert_checker.specs.PartNames.{part_name}
 
 -- a number of a line, which lies between two ends
 unfoldable pub number_within : ℤ → ℤ → List ℕ → Result ℤ CertKind

@@ -1,5 +1,5 @@
-use Rattle.bench_core.proofs.CertificateLaws.{never_improper}
-use Rattle.bench_core.proofs.cert_reader.read_certificate.Goals as goal
+use Rattle.cert_checker.proofs.CertificateLaws.{never_improper}
+use Rattle.cert_checker.proofs.reader.read_cert.Goals as goal
 
 pub unreachable-requires : goal.unreachable-requires
 unreachable-requires c =

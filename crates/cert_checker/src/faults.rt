@@ -1,5 +1,7 @@
+// What may be wrong with a certificate's text.
+
 /// A fault of a certificate's text, in the order in which one line is tested.
-#[derive(Clone, Copy)]
+#[derive(Clone, Copy, Debug, PartialEq, Eq)]
 pub enum CertKind {
     /// The first line with words isn't `cert 1`.
     NoHead,
@@ -16,15 +18,16 @@ pub enum CertKind {
     Missing,
 }
 
-/// A fault of a certificate's text and its line, from 1; of a missing part the number of lines.
-#[derive(Clone, Copy)]
+/// A fault of a certificate's text: the number of its line, from 1, and what is wrong there. Of a missing part
+/// it is the number of lines.
+#[derive(Clone, Copy, Debug, PartialEq, Eq)]
 pub struct CertFault {
     pub line: u32,
     pub kind: CertKind,
 }
 
 /// Why a text gives no certificate.
-#[derive(Clone, Copy)]
+#[derive(Clone, Copy, Debug, PartialEq, Eq)]
 pub enum CertError {
     /// The first fault of the text.
     Fault(CertFault),

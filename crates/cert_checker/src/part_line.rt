@@ -1,9 +1,9 @@
 // One line of a certificate: what it gives, or the first of its tests that fails.
 ghost use Rattle.std.specs.Prelude.{◌≡◌, pos, negsuc, ◌-◌, ◌^◌, ◌<ℤ◌};
 ghost use Rattle.text_words.specs.Lines.{words_of};
-ghost use Rattle.bench_core.specs.CertificateText.{names_next, number_within, part_line};
+ghost use Rattle.cert_checker.specs.CertificateText.{names_next, number_within, part_line};
 
-use crate::cert_kind::CertKind;
+use crate::faults::CertKind;
 use crate::part_naming::is_part_name;
 use cert_rules::Bounds;
 use net_model::Network;

@@ -11,9 +11,9 @@ use Rattle.net_model.proofs.PartPlaces.{few_parts}
 use Rattle.text_words.specs.Steps.{◌>>=◌, demand}
 use Rattle.part_rules.specs.declared.bounds.Bounds.{Bounds}
 use Rattle.cert_rules.specs.Proper.{is_entry_number, is_proper_entry, first_improper}
-use Rattle.bench_core.specs.declared.cert_kind.CertKind.{CertKind}
-use Rattle.bench_core.specs.declared.cert_kind.CertKind.TheVariants.{BadLine, WrongPart, BadNumber, EmptyRange}
-use Rattle.bench_core.specs.CertificateText.{number_within, most, names_next, part_line, certificate_reader, certificate_of}
+use Rattle.cert_checker.specs.declared.faults.CertKind.{CertKind}
+use Rattle.cert_checker.specs.declared.faults.CertKind.TheVariants.{BadLine, WrongPart, BadNumber, EmptyRange}
+use Rattle.cert_checker.specs.CertificateText.{number_within, most, names_next, part_line, certificate_reader, certificate_of}
 use Rattle.text_words.proofs.ReaderSteps.{kept_by_text}
 
 -- two steps that give something: the first does, and the second goes on with it

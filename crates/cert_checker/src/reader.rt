@@ -4,11 +4,11 @@ ghost use Rattle.std.specs.Result.{result_map_both};
 ghost use Rattle.text_words.specs.Lines.{lines_from};
 ghost use Rattle.text_words.specs.Readers.{read_below};
 ghost use Rattle.net_model.specs.Wires.{parts_of};
-ghost use Rattle.bench_core.specs.CertificateText.{certificate_reader};
-ghost use Rattle.bench_core.specs.CertificateReading.{GivesEntries, ReadsCertificate};
+ghost use Rattle.cert_checker.specs.CertificateText.{certificate_reader};
+ghost use Rattle.cert_checker.specs.CertificateReading.{GivesEntries, ReadsCertificate};
 
-use crate::cert_kind::{CertError, CertFault, CertKind};
-use crate::cert_line::part_line;
+use crate::faults::{CertError, CertFault, CertKind};
+use crate::part_line::part_line;
 use cert_rules::{Bounds, Certificate};
 use net_model::Network;
 use std::alloc::Global;
@@ -16,7 +16,7 @@ use text_words::{behind_head, count_words, next_line};
 
 /// The certificate that the text says for the network: one entry for each part, in the order of the parts. Each line
 /// is looked at until the first that has a fault. Where memory runs out, nothing is said of the text.
-pub fn read_certificate(alloc: Global, net: &Network, text: &[u8]) -> Result<Certificate, CertError>
+pub fn read_cert(alloc: Global, net: &Network, text: &[u8]) -> Result<Certificate, CertError>
     requires { length text.now < 2 ^ 32 }
     ensures reads { ReadsCertificate net.now text.now result }
     ensures complete { IfOk result (λ cert. length cert ≡ length (parts_of net.now.wires)) }
