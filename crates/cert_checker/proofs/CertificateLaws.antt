@@ -92,7 +92,7 @@ part_line-proper net k words b h =
 
 -- ---- so are all entries of a text
 
-none_is : (some : Bool) (k : ℕ) → cond some (Some k) None ≡ None → some ≡ false
+pub none_is : (some : Bool) (k : ℕ) → cond some (Some k) None ≡ None → some ≡ false
 none_is true k h = cc
 none_is false k h = refl
 

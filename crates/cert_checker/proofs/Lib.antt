@@ -5,3 +5,5 @@ pub mod CertificateLaws
 pub mod Findings
 pub mod RejectedPlaces
 pub mod Verdicts
+pub mod PrintedEntries
+pub mod PrintedCertificates

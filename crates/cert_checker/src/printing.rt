@@ -3,6 +3,7 @@ ghost use Rattle.std.specs.Prelude.{◌≡◌, ◌<◌, ◌++◌, [], ◌∷◌,
 ghost use Rattle.std.specs.Fmt.{signed_decimal};
 ghost use Rattle.text_words.specs.Printed.{spaced, word_lines};
 ghost use Rattle.net_model.specs.Wires.{parts_of};
+ghost use Rattle.net_model.specs.Validity.{IsValid};
 ghost use Rattle.cert_checker.specs.CertificateText.{certificate_of};
 ghost use Rattle.cert_checker.specs.CertificatePrinting.{PrintedCertificatesAreRead, certificate_text, entry_lines, entry_words};
 
@@ -32,9 +33,10 @@ pub fn law_of_printing()
 // Appends the line of each part.
 fn push_entries(text: &mut Vec<u8>, net: &Network, entries: &[Bounds]) -> Result<(), AllocError>
     requires { length entries.now ≡ length (parts_of net.now.wires) }
-    ensures { OnOk result (text.new.items ≡ text.old.items ++ word_lines (entry_lines net.now 0 entries.now)) }
+    ensures text { OnOk result (text.new.items ≡ text.old.items ++ word_lines (entry_lines net.now 0 entries.now)) }
+    ensures valid { IsValid net.now }
 {
-    for k in 0..entries.len() {
+    for k in 0..net.parts().len() {
         push_entry(text, net, k, entries[k])?;
     }
     Ok(())
