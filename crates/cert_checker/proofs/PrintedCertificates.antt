@@ -1,12 +1,11 @@
 -- The printed text of a certificate is read as the certificate: line by line, with the entries so far.
-use Rattle.std.proofs.Common.{◌≡◌, ℕ, suc, ◌+◌, ◌-◌, ◌<◌, ◌≤◌, ◌^◌, Bool, true, false, cond, not, ◌&&◌, ◌==◌, List, [], ◌∷◌, ◌++◌, map, length, ℤ, pos, negsuc, int_le, nat_lt, unsigned_abs, Option, Some, None, Ok, refl, sym, ap, subst, ◌∙◌, arith, append_assoc, append-nil, add-one, length-append, lt-ltb, leb-true, eq-eqb}
-use Rattle.std.specs.Prelude.{codes, bytes_eq, position}
+use Rattle.std.proofs.Common.{◌≡◌, ℕ, suc, ◌+◌, ◌-◌, ◌<◌, ◌≤◌, ◌^◌, Bool, true, false, cond, not, ◌&&◌, List, [], ◌∷◌, ◌++◌, map, length, ℤ, pos, negsuc, int_le, unsigned_abs, None, Ok, refl, sym, ap, subst, ◌∙◌, arith, append_assoc, append-nil, length-append, lt-ltb, eq-eqb}
+use Rattle.std.specs.Prelude.{codes}
 use Rattle.std.specs.List.{list_all, position_or_len}
 use Rattle.std.specs.Fmt.{signed_decimal}
 use Rattle.std.proofs.lemmas.Bool.{and_parts, and_from, ltb-false}
 use Rattle.std.proofs.lemmas.Bool.Decides.{nat_tests}
 use Rattle.std.proofs.lemmas.Slice.Eq.{bytes_eq-Decides}
-use Rattle.text_words.specs.Numbers.{number_of}
 use Rattle.text_words.specs.Printed.{spaced}
 use Rattle.text_words.specs.Steps.{◌>>=◌}
 use Rattle.text_words.specs.Readers.{head_below, read_below, read_from, said_by}
@@ -23,7 +22,6 @@ use Rattle.part_rules.specs.declared.bounds.Bounds.{Bounds}
 use Rattle.cert_rules.specs.Acceptance.{part_at}
 use Rattle.cert_rules.specs.Proper.{is_entry_number, is_proper_entry, first_improper}
 use Rattle.cert_rules.proofs.EntryFacts.{part_at-wire}
-use Rattle.cert_checker.specs.declared.faults.CertKind.{CertKind}
 use Rattle.cert_checker.specs.PartNames.{part_name, role_suffix}
 use Rattle.cert_checker.specs.CertificateText.{number_within, most, names_next, part_line, certificate_reader, certificate_of, after_part}
 use Rattle.cert_checker.proofs.CertificateLaws.{none_is}

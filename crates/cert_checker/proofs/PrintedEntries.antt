@@ -1,5 +1,5 @@
 -- A certificate's text that is printed piece by piece is the text that is printed at once.
-use Rattle.std.proofs.Common.{◌≡◌, ℕ, suc, ◌<◌, ◌+◌, List, [], ◌∷◌, ◌++◌, length, get_or, drop, drop-cons, add-one, append_assoc, append-nil, refl, sym, ap, ◌∙◌}
+use Rattle.std.proofs.Common.{◌≡◌, ℕ, List, [], ◌∷◌, ◌++◌, append_assoc, append-nil, ap, ◌∙◌}
 use Rattle.std.specs.Prelude.{codes}
 use Rattle.std.specs.Fmt.{signed_decimal}
 use Rattle.text_words.specs.Printed.{spaced, word_lines}
@@ -18,19 +18,6 @@ pub entry_joined : (net : NetData) (k : ℕ) (b : Bounds) (old first named lo hi
 entry_joined net k b old first named lo hi err new f n l h e last =
     last ∙ ap (λ t. t ++ 10 ∷ []) (e ∙ ap (λ t. t ++ 32 ∷ signed_decimal b.err) (h ∙ ap (λ t. t ++ 32 ∷ signed_decimal b.hi) (l ∙ ap (λ t. t ++ 32 ∷ signed_decimal b.lo) (n ∙ ap (λ t. t ++ part_name net k) f))))
     ∙ pieces_joined old (codes "part") (32 ∷ []) (part_name net k) (32 ∷ signed_decimal b.lo) (32 ∷ signed_decimal b.hi) (32 ∷ signed_decimal b.err) (10 ∷ [])
-
--- with the line of one more part, what is left behind it makes the same whole
-pub next_entry : (net : NetData) (whole so_far new : List ℕ) (entries : List Bounds) (k : ℕ) (b d : Bounds) → k < length entries → b ≡ get_or entries k d → so_far ++ word_lines (entry_lines net k (drop k entries)) ≡ whole → new ≡ so_far ++ (spaced (entry_words net k b) ++ 10 ∷ [])
-    → new ++ word_lines (entry_lines net (k + 1) (drop (k + 1) entries)) ≡ whole
-next_entry net whole so_far new entries k b d within is had pushed =
-    let left = word_lines (entry_lines net (k + 1) (drop (k + 1) entries)) in
-    let cut : drop k entries ≡ b ∷ drop (k + 1) entries = drop-cons entries k d within ∙ ap (λ e. e ∷ drop (suc k) entries) (sym is) ∙ ap (λ i. b ∷ drop i entries) (sym (add-one k)) in
-    ap (λ t. t ++ left) pushed
-    ∙ append_assoc so_far (spaced (entry_words net k b) ++ 10 ∷ []) left
-    ∙ ap (λ t. so_far ++ t) (append_assoc (spaced (entry_words net k b)) (10 ∷ []) left)
-    ∙ ap (λ i. so_far ++ (spaced (entry_words net k b) ++ (10 ∷ word_lines (entry_lines net i (drop (k + 1) entries))))) (add-one k)
-    ∙ ap (λ l. so_far ++ word_lines (entry_lines net k l)) (sym cut)
-    ∙ had
 
 -- the text of a certificate, from its head and its lines
 pub text_joined : (net : NetData) (entries : List Bounds) (head text : List ℕ) → head ≡ codes "cert 1" ++ 10 ∷ [] → text ≡ head ++ word_lines (entry_lines net 0 entries) → text ≡ certificate_text net entries

@@ -1,4 +1,4 @@
-use Rattle.std.proofs.Common.{◌≡◌, ap, ◌∙◌}
+use Rattle.std.proofs.Common.{ap, ◌∙◌}
 use Rattle.cert_checker.specs.CertificateText.{certificate_of}
 use Rattle.cert_checker.proofs.PrintedEntries.{text_joined}
 use Rattle.cert_checker.proofs.PrintedCertificates.{certificate_of-text}
