@@ -1,5 +1,5 @@
 -- Every line of a valid network's text has good words, and is read again; so is the text.
-use Rattle.std.proofs.Common.{◌≡◌, ℕ, zero, suc, ◌+◌, ◌<◌, ◌≤◌, Bool, true, ◌&&◌, nat_lt, int_le, List, [], ◌∷◌, map, length, take, get_or, ℤ, Ok, refl, ◌∙◌, arith, ltb-true, lt-ltb, le-leb}
+use Rattle.std.proofs.Common.{◌≡◌, ℕ, zero, suc, ◌+◌, ◌<◌, ◌≤◌, Bool, true, ◌&&◌, nat_lt, int_le, List, [], ◌∷◌, ◌++◌, map, length, take, get_or, ℤ, Ok, refl, ◌∙◌, arith, ltb-true, lt-ltb, le-leb, leb-true}
 use Rattle.std.specs.List.{list_all}
 use Rattle.std.proofs.lemmas.Bool.{and_parts, and_from}
 use Rattle.std.proofs.lemmas.List.{length-take-le}
@@ -12,19 +12,23 @@ use Rattle.net_model.specs.declared.wires.Kind.{Kind}
 use Rattle.net_model.specs.declared.wires.Item.{Item}
 use Rattle.net_model.specs.declared.wires.Item.TheVariants.{Input, Const, Delay, Block as OfBlock}
 use Rattle.net_model.specs.declared.wires.Wire.{Wire}
+use Rattle.net_model.specs.declared.signatures.ListSort.{ListSort}
+use Rattle.net_model.specs.declared.signatures.ListSort.TheVariants.{AxisOf, TableOf, TableOver}
 use Rattle.net_model.specs.declared.signatures.Range.{Range}
 use Rattle.net_model.specs.declared.block_forms.Form.{Form}
-use Rattle.net_model.specs.BlockForms.{form_of, signature_in, in_range, in_ranges}
-use Rattle.net_model.specs.Wires.{NetData, no_wire, wire_at, window_of, window_sum}
+use Rattle.net_model.specs.BlockForms.{form_in, signature_in, in_range, in_ranges}
+use Rattle.net_model.specs.Wires.{NetData, no_axis, no_table, no_wire, wire_at, window_of, window_sum}
 use Rattle.net_model.specs.Faults.{has_room}
-use Rattle.net_model.specs.Validity.{is_good_kind, kind_holds, wires_earlier, is_built_item, item_reads_earlier, item_agrees, item_in_range, same_kind, item_is_sourced, is_sourced, is_good_wire, IsValid}
+use Rattle.net_model.specs.Validity.{AreAxes, AreTables, is_list, is_table_of, lists_agree, kind_holds, wires_earlier, same_kind, is_sourced, IsValid}
 use Rattle.net_model.proofs.FamilyFacts.{is_short, ranges_are_short}
-use Rattle.net_model.proofs.ValidityFacts.{conditions, length-valid, rows-valid, good_wire-valid}
+use Rattle.net_model.proofs.ValidityFacts.{IsGoodWire, conditions, length-valid, rows-valid, good_item-valid, good_block}
 use Rattle.net_text.specs.Text.{network_of}
-use Rattle.net_text.specs.Printing.{argument_words, number_words, form_words, wire_words, out_words, text_of}
-use Rattle.net_text.proofs.PrintedKinds.{is_word-kind_word}
-use Rattle.net_text.proofs.PrintedBlocks.{IsGoodForm, size_in_range}
-use Rattle.net_text.proofs.PrintedWires.{IsPrintable, good_form, all_three, kind_holds-short}
+use Rattle.net_text.specs.Printing.{kind_word, name_of_axis, name_of_table, argument_words, list_word, list_words, number_words, form_words, axis_words, table_words, wire_words, out_words, text_of}
+use Rattle.net_text.proofs.PrintedKinds.{has_name, is_word-kind_word}
+use Rattle.net_text.proofs.PrintedLists.{axis_words_good, table_words_good}
+use Rattle.net_text.proofs.PrintedBlocks.{IsGoodForm, axis_within, table_within, found_kind, size_in_range}
+use Rattle.net_text.proofs.PrintedNames.{AreApart}
+use Rattle.net_text.proofs.PrintedWires.{IsPrintable, good_form, all_three, kind_holds-short, kind_there}
 use Rattle.net_text.proofs.PrintedRoutines.{is_word-routine_name}
 use Rattle.net_text.proofs.PrintedText.{AreReadable, AreOutputs, IsReadable, no_out, network_of-text_of}
 
@@ -46,50 +50,61 @@ numbers_good (r ∷ ranges) (n ∷ numbers) short fits =
     let size = size_in_range r n s.0 f.0 in
     and_from _ _ (is_word-signed_decimal n (omega arith)) (numbers_good ranges numbers s.1 f.1)
 
-form_words_good : (net : NetData) (i : ℕ) (kind : Kind) (form : Form) → ((a : ℕ) → a < i → is_name (wire_at net.wires a).name ≡ true) → IsGoodForm net i kind form → are_words (form_words net.wires form) ≡ true
-form_words_good net i kind form named is =
-    let given = list_all-append is_word (argument_words net.wires form.wires) (number_words form.numbers)
-    ∙ and_from _ _ (arguments_good net.wires i form.wires named is.earlier) (numbers_good (signature_in form).ranges form.numbers (ranges_are_short form.routine form.types) is.fits) in
+-- the name of a list
+list_good : (net : NetData) (all : List ℕ) (sort : ListSort) (n : ℕ) → AreAxes net.axes → AreTables net.tables → is_list net all sort n ≡ true → is_word (list_word net sort n) ≡ true
+list_good net all (AxisOf ty) n axes tables h = is_word-name (name_of_axis net.axes n) (axes n (axis_within net ty n h)).name
+list_good net all (TableOf ty) n axes tables h = is_word-name (name_of_table net.tables n) (tables n (table_within net ty n h)).name
+list_good net all (TableOver ty p) n axes tables h = is_word-name (name_of_table net.tables n) (tables n (table_within net ty n (and_parts (is_table_of net.tables ty n) _ h).0)).name
+
+lists_good : (net : NetData) (all : List ℕ) (sorts : List ListSort) (lists : List ℕ) → AreAxes net.axes → AreTables net.tables → lists_agree net all sorts lists ≡ true → are_words (list_words net sorts lists) ≡ true
+unfolding list_words
+lists_good net all [] [] axes tables h = refl
+lists_good net all (s ∷ sorts) [] axes tables h = absurd (cc)
+lists_good net all [] (n ∷ lists) axes tables h = absurd (cc)
+lists_good net all (s ∷ sorts) (n ∷ lists) axes tables h =
+    let fits = and_parts (is_list net all s n) (lists_agree net all sorts lists) h in
+    and_from _ _ (list_good net all s n axes tables fits.0) (lists_good net all sorts lists axes tables fits.1)
+
+form_words_good : (net : NetData) (i : ℕ) (kind : Kind) (form : Form) → ((a : ℕ) → a < i → is_name (wire_at net.wires a).name ≡ true) → AreAxes net.axes → AreTables net.tables → IsGoodForm net i kind form → are_words (form_words net form) ≡ true
+form_words_good net i kind form named axes tables is =
+    let sig = signature_in form in
+    let args = argument_words net.wires form.wires in
+    let lists = list_words net sig.lists form.lists in
+    let numbers = number_words form.numbers in
+    let behind = list_all-append is_word lists numbers
+    ∙ and_from _ _ (lists_good net form.lists sig.lists form.lists axes tables is.lists) (numbers_good sig.ranges form.numbers (ranges_are_short form.routine form.types) is.fits) in
+    let given = list_all-append is_word args (lists ++ numbers) ∙ and_from _ _ (arguments_good net.wires i form.wires named is.earlier) behind in
     and_from _ _ (is_word-routine_name form.routine form.types is.taken) given
 
 -- ---- the words of a line
 
-wire_words_good : (net : NetData) (i : ℕ) (name : List ℕ) (kind : Kind) (item : Item) → i ≤ length net.wires → ((a : ℕ) → a < length net.wires → is_name (wire_at net.wires a).name ≡ true) → is_name name ≡ true → IsPrintable net i kind item
-    → are_words (wire_words net.wires (record { name = name; kind = kind; item = item })) ≡ true
-wire_words_good net i name kind (Input lo hi) within named here ok =
-    let ends = all_three (kind_holds kind lo) (kind_holds kind hi) (int_le lo hi) ok.in_range in
-    and_from _ _ (is_word-name name here) (and_from _ _ (is_word-kind_word kind ok.kind_good) (and_from _ _ (is_word-signed_decimal lo (kind_holds-short kind lo ends.0)) (and_from _ _ (is_word-signed_decimal hi (kind_holds-short kind hi ends.1)) refl)))
-wire_words_good net i name kind (Const value) within named here ok =
-    and_from _ _ (is_word-name name here) (and_from _ _ (is_word-kind_word kind ok.kind_good) (and_from _ _ (is_word-signed_decimal value (kind_holds-short kind value ok.in_range)) refl))
-wire_words_good net i name kind (Delay init source) within named here ok =
+-- what the words of lines rest on
+record AreNamed (net : NetData) : Type 0 where
+  apart : AreApart net
+  axes : AreAxes net.axes
+  tables : AreTables net.tables
+  wires : (a : ℕ) → a < length net.wires → is_name (wire_at net.wires a).name ≡ true
+
+kind_good : (net : NetData) (i : ℕ) (name : List ℕ) (kind : Kind) (item : Item) → AreNamed net → IsPrintable net i name kind item → is_word (kind_word net.axes kind) ≡ true
+kind_good net i name kind item named ok =
+    is_word-kind_word net.axes kind ok.good.good_kind (has_name net.axes kind (found_kind net kind named.apart named.axes (kind_there item ok.good)))
+
+wire_words_good : (net : NetData) (i : ℕ) (name : List ℕ) (kind : Kind) (item : Item) → i ≤ length net.wires → AreNamed net → IsPrintable net i name kind item
+    → are_words (wire_words net (record { name = name; kind = kind; item = item })) ≡ true
+wire_words_good net i name kind (Input lo hi) within named ok =
+    let ends = all_three (kind_holds net.axes kind lo) (kind_holds net.axes kind hi) (int_le lo hi) ok.good.in_range in
+    and_from _ _ (is_word-name name ok.good.named) (and_from _ _ (kind_good net i name kind (Input lo hi) named ok) (and_from _ _ (is_word-signed_decimal lo (kind_holds-short net.axes kind lo named.axes ends.0)) (and_from _ _ (is_word-signed_decimal hi (kind_holds-short net.axes kind hi named.axes ends.1)) refl)))
+wire_words_good net i name kind (Const value) within named ok =
+    and_from _ _ (is_word-name name ok.good.named) (and_from _ _ (kind_good net i name kind (Const value) named ok) (and_from _ _ (is_word-signed_decimal value (kind_holds-short net.axes kind value named.axes ok.good.in_range)) refl))
+wire_words_good net i name kind (Delay init source) within named ok =
     let there = (and_parts (nat_lt source.0 (length net.wires)) (same_kind kind (wire_at net.wires source.0).kind) ok.sourced).0 in
-    let from = and_from _ _ (is_word-name (wire_at net.wires source.0).name (named source.0 (ltb-true source.0 (length net.wires) there))) refl in
-    and_from _ _ (is_word-name name here) (and_from _ _ (is_word-kind_word kind ok.kind_good) (and_from _ _ (is_word-signed_decimal init (kind_holds-short kind init ok.in_range)) from))
-wire_words_good net i name kind (OfBlock b) within named here ok =
-    let form = form_words_good net i kind (form_of b) (λ a lt. named a (omega arith)) (good_form net i kind b ok.built ok.earlier ok.agree ok.in_range) in
-    and_from _ _ (is_word-name name here) (and_from _ _ (is_word-kind_word kind ok.kind_good) form)
+    let from = and_from _ _ (is_word-name (wire_at net.wires source.0).name (named.wires source.0 (ltb-true source.0 (length net.wires) there))) refl in
+    and_from _ _ (is_word-name name ok.good.named) (and_from _ _ (kind_good net i name kind (Delay init source) named ok) (and_from _ _ (is_word-signed_decimal init (kind_holds-short net.axes kind init named.axes ok.good.in_range)) from))
+wire_words_good net i name kind (OfBlock b) within named ok =
+    let form = form_words_good net i kind (form_in net b) (λ a lt. named.wires a (omega (arith, lt, within))) named.axes named.tables (good_form net i kind b (good_block net i name kind b ok.good)) in
+    and_from _ _ (is_word-name name ok.good.named) (and_from _ _ (kind_good net i name kind (OfBlock b) named ok) form)
 
 -- ---- wires of a valid network
-
--- the tests of a wire, one by one
-record IsGoodWire (net : NetData) (i : ℕ) (w : Wire) : Type 0 where
-  named : is_name w.name ≡ true
-  built : is_built_item w.item ≡ true
-  earlier : item_reads_earlier i w.item ≡ true
-  agree : item_agrees net w.kind w.item ≡ true
-  kind : is_good_kind w.kind ≡ true
-  range : item_in_range w.kind w.item ≡ true
-
-all_six : (a b c d e f : Bool) → (a && b && c && d && e && f) ≡ true → (a ≡ true) × (b ≡ true) × (c ≡ true) × (d ≡ true) × (e ≡ true) × (f ≡ true)
-all_six a b c d e f h =
-    let outer = all_three (a && b && c && d) e f h in
-    let inner = all_three (a && b) c d outer.0 in
-    let first = and_parts a b inner.0 in (first.0, first.1, inner.1, inner.2, outer.1, outer.2)
-
-good_wire : (net : NetData) (i : ℕ) (w : Wire) → is_good_wire net i w ≡ true → IsGoodWire net i w
-good_wire net i w good =
-    let p = all_six (is_name w.name) (is_built_item w.item) (item_reads_earlier i w.item) (item_agrees net w.kind w.item) (is_good_kind w.kind) (item_in_range w.kind w.item) good in
-    record { named = p.0; built = p.1; earlier = p.2; agree = p.3; kind = p.4; range = p.5 }
 
 -- the averages of the wires up to one are among those of all
 rows_within : (wires : List Wire) (i : ℕ) → i < length wires → window_sum (take i wires) + window_of (wire_at wires i).item ≤ window_sum wires
@@ -105,24 +120,24 @@ room_valid net i valid within =
     let some = rows_within net.wires i within in
     and_from _ _ (lt-ltb (length (take i net.wires)) 512 (omega arith)) (le-leb (window_sum (take i net.wires) + window_of (wire_at net.wires i).item) 65536 (omega arith))
 
-printable : {net : NetData} {i : ℕ} {w : Wire} → IsGoodWire net i w → item_is_sourced net.wires w.kind w.item ≡ true → has_room (take i net.wires) w.item ≡ true → IsPrintable net i w.kind w.item
-printable g sourced room = record { kind_good = g.kind; built = g.built; earlier = g.earlier; agree = g.agree; in_range = g.range; sourced = sourced; room = room }
-
 wires_readable : (net : NetData) → IsValid net → AreReadable net
 wires_readable net valid =
+    let all = conditions net valid in
     let wires = net.wires in
-    let good : (i : ℕ) → i < length wires → IsGoodWire net i (wire_at wires i) = λ i within. good_wire net i (wire_at wires i) (good_wire-valid net i valid within) in
-    let sourced : (i : ℕ) → i < length wires → is_sourced wires (wire_at wires i) ≡ true = λ i within. AllPass-from_list_all (is_sourced wires) wires (conditions net valid).sourced i no_wire within in
-    let print : (i : ℕ) → i < length wires → IsPrintable net i (wire_at wires i).kind (wire_at wires i).item = λ i within. printable (good i within) (sourced i within) (room_valid net i valid within) in
+    let good : (i : ℕ) → i < length wires → IsGoodWire net i (wire_at wires i).name (wire_at wires i).kind (wire_at wires i).item = λ i within. good_item-valid net i (wire_at wires i).item valid within refl in
+    let sourced : (i : ℕ) → i < length wires → is_sourced wires (wire_at wires i) ≡ true = λ i within. AllPass-from_list_all (is_sourced wires) wires all.sourced i no_wire within in
+    let print : (i : ℕ) → i < length wires → IsPrintable net i (wire_at wires i).name (wire_at wires i).kind (wire_at wires i).item = λ i within. record { good = good i within; sourced = sourced i within; room = room_valid net i valid within } in
+    let named : AreNamed net = record { apart = all.distinct_names; axes = valid.axes; tables = valid.tables; wires = λ a lt. (good a lt).named } in
     record {
       few = length-valid net valid;
-      distinct = (conditions net valid).distinct;
-      named = λ i within. (good i within).named;
+      few_axes = leb-true (length net.axes) 64 all.few_axes;
+      few_tables = leb-true (length net.tables) 64 all.few_tables;
+      apart = all.distinct_names;
+      axes = valid.axes;
+      tables = valid.tables;
+      named = named.wires;
       printable = print;
-      words = λ i within.
-          let g = good i within in
-          let w = wire_at wires i in
-          wire_words_good net i w.name w.kind w.item (omega arith) (λ a lt. (good a lt).named) g.named (print i within);
+      words = λ i within. let w = wire_at wires i in wire_words_good net i w.name w.kind w.item (omega (arith, within)) named (print i within);
     }
 
 -- ---- outputs
@@ -151,13 +166,19 @@ readable net valid =
     let all = conditions net valid in
     let wires = wires_readable net valid in
     let outs = outs_readable net valid wires in
+    let a = map axis_words net.axes in
+    let t = map table_words net.tables in
+    let w = map (wire_words net) net.wires in
+    let o = map (out_words net.wires) net.outs in
+    let good_axes = map_words_good axis_words net.axes no_axis (λ i within. axis_words_good (get_or net.axes i no_axis) (valid.axes i within)) in
+    let good_tables = map_words_good table_words net.tables no_table (λ i within. table_words_good (get_or net.tables i no_table) (valid.tables i within)) in
+    let good_wires = list_all-append are_words w o ∙ and_from _ _ (map_words_good (wire_words net) net.wires no_wire wires.words) (map_words_good (out_words net.wires) net.outs no_out outs.words) in
     record {
       wires = wires;
       outs = outs;
       sourced = all.sourced;
       ends = and_from _ _ all.has_input all.has_output;
-      words = list_all-append are_words (map (wire_words net.wires) net.wires) (map (out_words net.wires) net.outs)
-          ∙ and_from _ _ (map_words_good (wire_words net.wires) net.wires no_wire wires.words) (map_words_good (out_words net.wires) net.outs no_out outs.words);
+      words = list_all-append are_words a (t ++ (w ++ o)) ∙ and_from _ _ good_axes (list_all-append are_words t (w ++ o) ∙ and_from _ _ good_tables good_wires);
     }
 
 -- a valid network is read again from its text

@@ -1,5 +1,6 @@
 -- Texts, and what they say.
-use Rattle.std.proofs.Common.{◌≡◌, ℕ, List, [], ◌∷◌, ◌++◌, codes, refl, pos, negsuc, Ok, Err}
+use Rattle.std.specs.Fmt.{digits}
+use Rattle.std.proofs.Common.{◌≡◌, ℕ, List, [], ◌∷◌, ◌++◌, codes, refl, pos, negsuc, Some, None, Ok, Err}
 use Rattle.text_words.specs.Lines.{lines_of, lines_from, words_of}
 use Rattle.text_words.specs.Names.{is_name}
 use Rattle.text_words.specs.Numbers.{number_of}
@@ -7,13 +8,15 @@ use Rattle.fx_core.specs.declared.word_type.Ty.TheVariants.{U8, S16, S32}
 use Rattle.net_model.specs.declared.network.NetKind.{NetKind}
 use Rattle.net_model.specs.declared.network.NetKind.TheVariants.{NoHead, BadLine, BadName, Repeated, BadType, UnknownRoutine, BadCount, UnknownName, LaterWire, TypeDiffers, BadNumber, OutOfRange, Missing, NotBuilt}
 use Rattle.fx_routines.specs.declared.operation.ArithOp.TheVariants.{Add}
+use Rattle.fx_routines.specs.declared.interpolation.CurveOp.TheVariants.{Ipo}
 use Rattle.fx_routines.specs.Rows.{rows}
 use Rattle.fx_routines.specs.Names.{row_of}
 use Rattle.fx_routines.specs.Reading.{after, first_type, read_first, read_second, read_output, read_word, read_part, read_parts, row_named, named}
 use Rattle.fx_routines.specs.declared.operation.ScaledOp.TheVariants.{Convert}
-use Rattle.net_model.specs.declared.wires.Kind.TheVariants.{Num}
-use Rattle.net_model.specs.declared.wires.Block.TheVariants.{Arith, Scaled}
+use Rattle.net_model.specs.declared.wires.Kind.TheVariants.{Num, Position}
+use Rattle.net_model.specs.declared.wires.Block.TheVariants.{Arith, Scaled, Search, Curve}
 use Rattle.net_model.specs.declared.wires.Item.TheVariants.{Input, Const, Delay, Block as OfBlock}
+use Rattle.net_model.specs.BlockForms.{form_of}
 use Rattle.net_model.specs.Families.{signature_of, block_of}
 use Rattle.net_model.specs.Wires.{NetData, place_of}
 use Rattle.net_text.specs.TypeWords.{point_of_word, number_kind_of, kind_of, is_position}
@@ -21,6 +24,7 @@ use Rattle.net_text.specs.RoutineWords.{routine_at}
 use Rattle.ifx_search.specs.Axes.{stepped_points}
 use Rattle.net_text.specs.Forms.{is_known, all_pass, wire_named, wires_named, list_named, lists_named, are_numbers, number_in, numbers_in, given_line, fresh, input_of, const_of, agreed, kind_named, in_line, const_line, wire_line, delay_of, delay_line, source_named, list_front, points_given, values_given, steps_given, shift_given, axis_line, table_line, axisstep_line, axisshift_line, map_line, line_of, out_line, defining_line}
 use Rattle.net_text.specs.Names.{keyword_of, is_defined, names_below, line_naming, axis_place, table_place}
+use Rattle.net_text.specs.Printing.{list_words, text_of}
 use Rattle.net_text.specs.Text.{after_out, after_definition, after_line, tested_behind, network_of}
 use Rattle.text_words.specs.Readers.{said_by, head_below, read_below, behind_line, behind_all}
 
@@ -96,6 +100,34 @@ summed = record {
 good_text : network_of (codes "net 1 # a sum\n\nin x s16 0 4\nconst k s16.07 -3\nwire y s32 = Mfx_Add_s16s16_s32 x k\nwire z s16.12 = Mfx_ConvertP2_s32_s16 y\nout z\nout y\n") ≡ Ok summed
 unfolding network_of said_by head_below lines_of lines_from words_of read_below behind_line behind_all after_line after_out after_definition keyword_of names_below defining_line line_of in_line const_line wire_line given_line delay_line delay_of source_named all_pass wire_named wires_named list_named lists_named are_numbers number_in numbers_in list_front points_given values_given steps_given shift_given axis_line table_line axisstep_line axisshift_line map_line kind_named axis_place table_place signature_of block_of out_line fresh place_of is_known is_defined agreed input_of const_of kind_of number_kind_of point_of_word is_position routine_at named rows row_of row_named read_parts read_part read_first read_second read_output read_word first_type after is_name number_of tested_behind line_naming stepped_points
 good_text = refl
+
+-- one with axes, a table, and a position
+abbrev looked_up : NetData
+looked_up = record {
+  axes =
+      (codes "a", record { ty = S16; points = negsuc 0 ∷ pos 7 ∷ pos 9 ∷ []; spacing = None })
+      ∷ (codes "b", record { ty = U8; points = pos 0 ∷ pos 100 ∷ pos 200 ∷ []; spacing = Some (pos 0, pos 100) })
+      ∷ [];
+  tables = (codes "t", record { ty = U8; values = pos 5 ∷ pos 6 ∷ pos 0 ∷ [] }) ∷ [];
+  wires =
+      record { name = codes "x"; kind = Num S16 0; item = Input (pos 0) (pos 4) }
+      ∷ record { name = codes "p"; kind = Position 0; item = OfBlock (Search S16 (record { 0 = 0 }) 0) }
+      ∷ record { name = codes "y"; kind = Num U8 4; item = OfBlock (Curve Ipo (record { 0 = 1 }) 0) }
+      ∷ [];
+  outs = record { 0 = 2 } ∷ [];
+}
+
+abbrev look_up_text : List ℕ
+look_up_text = codes "net 1\naxis a s16 -1 7 9\naxisstep b u8 0 100 3\ntable t u8 5 6 0\nin x s16 0 4\nwire p dp:a = Ifx_DPSearch_s16 x a\nwire y u8.4 = Ifx_IpoCur_u8 p t\nout y\n"
+
+read_lists : network_of look_up_text ≡ Ok looked_up
+unfolding network_of said_by head_below lines_of lines_from words_of read_below behind_line behind_all after_line after_out after_definition keyword_of names_below defining_line line_of in_line const_line wire_line given_line delay_line delay_of source_named all_pass wire_named wires_named list_named lists_named are_numbers number_in numbers_in list_front points_given values_given steps_given shift_given axis_line table_line axisstep_line axisshift_line map_line kind_named axis_place table_place signature_of block_of out_line fresh place_of is_known is_defined agreed input_of const_of kind_of number_kind_of point_of_word is_position routine_at named rows row_of row_named read_parts read_part read_first read_second read_output read_word first_type after is_name number_of tested_behind line_naming stepped_points
+read_lists = refl
+
+-- each is printed as it was read
+printed_text : (text_of summed ≡ codes "net 1\nin x s16 0 4\nconst k s16.7 -3\nwire y s32 = Mfx_Add_s16s16_s32 x k\nwire z s16.12 = Mfx_ConvertP2_s32_s16 y\nout z\nout y\n") × (text_of looked_up ≡ look_up_text)
+unfolding text_of list_words form_of signature_of row_of rows digits
+printed_text = (refl, refl)
 
 -- one with a delay on a later wire and one on itself
 abbrev counted : NetData
