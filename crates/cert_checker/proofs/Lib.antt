@@ -7,3 +7,4 @@ pub mod RejectedPlaces
 pub mod Verdicts
 pub mod PrintedEntries
 pub mod PrintedCertificates
+mod Examples
