@@ -8,18 +8,18 @@ use Rattle.cert_rules.specs.Acceptance.{first_rejected}
 use Rattle.cert_rules.proofs.AcceptanceLaws.{accepts_from_none_rejected, all_are_smooth}
 use Rattle.cert_rules.proofs.TheoremProof.{certificates_hold}
 use Rattle.net_text.specs.Text.{network_of}
-use Rattle.bench_core.specs.PartNames.{part_name}
-use Rattle.bench_core.specs.CertificateText.{certificate_of}
+use Rattle.cert_checker.specs.PartNames.{part_name}
+use Rattle.cert_checker.specs.CertificateText.{certificate_of}
 use Rattle.net_text.proofs.ReadingLaw.{network_of_valid}
-use Rattle.bench_core.proofs.CertificateLaws.{certificate_of-complete}
+use Rattle.cert_checker.proofs.CertificateLaws.{certificate_of-complete}
 use Rattle.bench_core.proofs.PassedSteps.{RefusesAbove, above_from, faultless_above, given_faultless, ok_is_not_error, passed, passed_both}
 use Rattle.bench_core.specs.Calls.{SinkCall, Writes}
 use Rattle.bench_core.specs.Outcomes.{Outcome}
 use Rattle.bench_core.specs.RefusalTexts.{not_accepted}
 use Rattle.bench_core.specs.Requests.{is_file_word, check_words, request_of}
 use Rattle.bench_core.proofs.RequestLaws.{over_files}
-use Rattle.bench_core.specs.declared.cert_kind.CertFault.{CertFault}
-use Rattle.bench_core.specs.RefusalTexts.{bad_certificate}
+use Rattle.cert_checker.specs.declared.faults.CertFault.{CertFault}
+use Rattle.bench_core.specs.FaultTexts.{bad_certificate}
 use Rattle.bench_core.specs.CheckAnswer.{certificate_in, if_none_rejected, acceptance, accepted_line, tell_accepted, check_entries, check_bytes, check_answer}
 use Rattle.bench_core.specs.FilesRead.{text_limit}
 use Rattle.bench_core.specs.WholeAnswer.{answer_of, answer_of_request}
@@ -29,6 +29,7 @@ use Rattle.bench_core.specs.Clauses.{Certifies}
 -- ---- the certificate
 
 bad_certificate_above : (name : List ℕ) (fault : CertFault) → 0 < (bad_certificate name fault).status
+unfolding bad_certificate
 bad_certificate_above name fault = omega arith
 
 certificate_above : (net : NetData) (name bytes : List ℕ) → RefusesAbove (certificate_in net name bytes)

@@ -1,10 +1,6 @@
-pub mod PartPlaces
-pub mod HeldWithin
-pub mod CertificateSteps
 pub mod StepLaws
 pub mod EndingLaws
 pub mod ClauseLaws
-pub mod CertificateLaws
 pub mod PassedSteps
 pub mod HeadlineLaws
 pub mod RunHeadline

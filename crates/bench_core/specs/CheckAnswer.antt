@@ -3,10 +3,11 @@ use Rattle.std.specs.Prelude.{ℕ, List, [], ◌∷◌, ◌++◌, Option, Some, 
 use Rattle.net_model.specs.Wires.{NetData}
 use Rattle.part_rules.specs.declared.bounds.Bounds.{Bounds}
 use Rattle.cert_rules.specs.Acceptance.{first_rejected}
-use Rattle.bench_core.specs.PartNames.{part_name}
-use Rattle.bench_core.specs.CertificateText.{certificate_of}
+use Rattle.cert_checker.specs.PartNames.{part_name}
+use Rattle.cert_checker.specs.CertificateText.{certificate_of}
 use Rattle.bench_core.specs.Outcomes.{Outcome, Refusal, done, printed, unless_refused}
-use Rattle.bench_core.specs.RefusalTexts.{bad_certificate, not_accepted}
+use Rattle.bench_core.specs.RefusalTexts.{not_accepted}
+use Rattle.bench_core.specs.FaultTexts.{bad_certificate}
 use Rattle.bench_core.specs.FilesRead.{if_faultless, over_two_files, text_limit}
 
 -- the certificate of a file's bytes, for the wires of a network

@@ -10,7 +10,7 @@ use Rattle.cert_rules.specs.Acceptance.{Accepts}
 use Rattle.cert_rules.specs.Theorem.{CertificateHolds}
 use Rattle.rec_csv.specs.Recordings.{recording_of}
 use Rattle.bench_core.specs.PrintedRuns.{run_text}
-use Rattle.bench_core.specs.CertificateText.{certificate_of}
+use Rattle.cert_checker.specs.CertificateText.{certificate_of}
 
 -- the first text is a network's, the second a certificate's that is accepted for it, and the certificate holds
 pub record IsCertified (net cert : List ℕ) : Type 0 where

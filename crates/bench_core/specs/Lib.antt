@@ -1,6 +1,3 @@
-pub mod PartNames
-pub mod CertificateText
-pub mod CertificateReading
 pub mod Calls
 pub mod Outcomes
 pub mod RefusalTexts

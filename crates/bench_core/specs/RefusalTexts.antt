@@ -1,6 +1,5 @@
 -- The lines that are said of each status other than 0.
 use Rattle.std.specs.Prelude.{ℕ, List, [], ◌∷◌, ◌++◌, codes}
-use Rattle.bench_core.specs.declared.cert_kind.CertFault.{CertFault}
 use Rattle.bench_core.specs.Outcomes.{Refusal, line}
 
 -- the words are outside the grammar
@@ -22,10 +21,6 @@ out_of_memory = codes "out of memory" ++ 10 ∷ []
 -- a file has more bytes than its limit
 abbrev pub too_long : List ℕ → Refusal
 too_long file = record { status = 9; text = line (codes "too long ") file }
-
--- the certificate's text has a fault; which one isn't told yet
-abbrev pub bad_certificate : List ℕ → CertFault → Refusal
-bad_certificate file fault = record { status = 5; text = line file (codes ": refused") }
 
 -- the certificate isn't accepted, and this part fails first
 abbrev pub not_accepted : List ℕ → Refusal

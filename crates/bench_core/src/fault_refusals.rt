@@ -1,10 +1,12 @@
-// The line that is said of a fault of a network's text.
+// The lines that are said of faults of texts: a network's and a certificate's.
 ghost use Rattle.std.specs.Prelude.{◌≡◌, IfOk};
 ghost use Rattle.bench_core.specs.HowItEnds.{RefusesWith};
-ghost use Rattle.bench_core.specs.FaultTexts.{bad_network, fault_line, kind_word};
+ghost use Rattle.bench_core.specs.Statuses.{IsRefusalStatus};
+ghost use Rattle.bench_core.specs.FaultTexts.{bad_certificate, bad_network, cert_kind_word, fault_line, net_kind_word};
 
 use super::endings::Ending;
 use super::notice::Notice;
+use cert_checker::{CertFault, CertKind};
 use itoa::Buffer;
 use net_model::NetKind;
 use net_text::NetFault;
@@ -15,8 +17,24 @@ use std::alloc::{AllocError, Global};
 pub(crate) fn refuse_network(alloc: Global, file: &str, fault: NetFault) -> Ending
     ensures { RefusesWith (bad_network file.now fault) result }
 {
-    match fault_line(alloc, file.as_bytes(), fault.line, kind_word(fault.kind)) {
-        Ok(text) => Ending::Refused(Notice { status: 3, text }),
+    refuse_fault(alloc, 3, file, fault.line, net_kind_word(fault.kind))
+}
+
+/// The certificate's text has a fault: the file, the line and the kind.
+#[tactic(auto, unfolding(crate::specs::FaultTexts::bad_certificate))]
+pub(crate) fn refuse_certificate(alloc: Global, file: &str, fault: CertFault) -> Ending
+    ensures { RefusesWith (bad_certificate file.now fault) result }
+{
+    refuse_fault(alloc, 5, file, fault.line, cert_kind_word(fault.kind))
+}
+
+// A refusal with this status that tells the file, the line and the kind of a fault.
+fn refuse_fault(alloc: Global, status: u8, file: &str, line: u32, kind: &[u8]) -> Ending
+    requires { IsRefusalStatus status }
+    ensures { RefusesWith (record { status = status; text = fault_line file.now line kind.now }) result }
+{
+    match fault_line(alloc, file.as_bytes(), line, kind) {
+        Ok(text) => Ending::Refused(Notice { status, text }),
         Err(_) => Ending::OutOfMemory,
     }
 }
@@ -30,8 +48,8 @@ fn fault_line(alloc: Global, file: &[u8], line: u32, kind: &[u8]) -> Result<Vec<
     [file, b":", number, b": ", kind, b"\n"].concat(alloc)
 }
 
-fn kind_word(kind: NetKind) -> &'static [u8]
-    ensures { result.now ≡ kind_word kind }
+fn net_kind_word(kind: NetKind) -> &'static [u8]
+    ensures { result.now ≡ net_kind_word kind }
 {
     match kind {
         NetKind::NoHead => b"NoHead",
@@ -49,5 +67,18 @@ fn kind_word(kind: NetKind) -> &'static [u8]
         NetKind::TooMany => b"TooMany",
         NetKind::Missing => b"Missing",
         NetKind::NotBuilt => b"NotBuilt",
+    }
+}
+
+fn cert_kind_word(kind: CertKind) -> &'static [u8]
+    ensures { result.now ≡ cert_kind_word kind }
+{
+    match kind {
+        CertKind::NoHead => b"NoHead",
+        CertKind::BadLine => b"BadLine",
+        CertKind::WrongPart => b"WrongPart",
+        CertKind::BadNumber => b"BadNumber",
+        CertKind::EmptyRange => b"EmptyRange",
+        CertKind::Missing => b"Missing",
     }
 }

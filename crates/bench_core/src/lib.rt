@@ -2,16 +2,12 @@
 // definition; its contract says how far the call keeps to it where the outside fails.
 #![tactic(auto)]
 
-mod cert_kind;
-mod cert_line;
-mod cert_reader;
 mod checking;
 mod commands;
 mod endings;
 mod evaluation;
 mod fault_refusals;
 mod notice;
-mod part_naming;
 mod recording_refusals;
 mod refusals;
 mod run_lines;

@@ -3,22 +3,21 @@ ghost use Rattle.std.specs.Prelude.{◌≡◌, ◌^◌, ◌≤◌, ◌<◌, ◌�
 ghost use Rattle.std.specs.Option.{ForSome};
 ghost use Rattle.fx_io.specs.Whole.{IsReadOut};
 ghost use Rattle.bench_core.specs.Calls.{SinkCall, shelf_call};
-ghost use Rattle.bench_core.specs.HowItEnds.{EndsUnmade, ReadsAs, Makes, HasEndingCause, HasStepCause};
+ghost use Rattle.cert_checker.specs.PartNames.{part_name};
+ghost use Rattle.bench_core.specs.HowItEnds.{EndsUnmade, ReadsAs, RefusesWith, Makes, HasEndingCause, HasStepCause};
+ghost use Rattle.bench_core.specs.RefusalTexts.{not_accepted};
 ghost use Rattle.bench_core.specs.FilesRead.{file_read, network_in, network_read, over_two_files};
 ghost use Rattle.bench_core.specs.CheckAnswer.{certificate_in, acceptance};
 ghost use Rattle.net_model.specs.Smooth.{IsSmooth};
 ghost use Rattle.net_model.specs.Wires.{parts_of};
 
-use super::cert_kind::CertError;
-use super::cert_reader::read_certificate;
 use super::endings::Ending;
-use super::fault_refusals::refuse_network;
-use super::part_naming::refuse_part;
+use super::fault_refusals::{refuse_certificate, refuse_network};
 use super::refusals::{refuse, unread};
-use cert_checker::{Rejected, check};
+use cert_checker::{CertError, Rejected, check, part_name, read_cert};
 use cert_rules::Certificate;
 use fx_io::{ReadAllFault, Shelf, read_all};
-use net_model::Network;
+use net_model::{Network, PartNo};
 use net_text::{NetError, read_net};
 use std::alloc::Global;
 
@@ -94,9 +93,9 @@ pub(crate) fn certificate_of_text(
     ensures made { Makes (λ c. c) (certificate_in network.now name.now text.now) result }
     ensures complete { IfOk result (λ cert. length cert ≡ length (parts_of network.now.wires)) }
 {
-    match read_certificate(alloc, network, text) {
+    match read_cert(alloc, network, text) {
         Ok(certificate) => Ok(certificate),
-        Err(CertError::Fault(_)) => Err(refuse(alloc, 5, name.as_bytes(), b": refused")),
+        Err(CertError::Fault(fault)) => Err(refuse_certificate(alloc, name, fault)),
         Err(CertError::OutOfMemory) => Err(Ending::OutOfMemory),
     }
 }
@@ -115,6 +114,17 @@ pub(crate) fn accept(
     match check(network, certificate) {
         Ok(_) => Ok(()),
         Err(Rejected { part }) => Err(refuse_part(alloc, network, part)),
+    }
+}
+
+// The part that fails first isn't accepted.
+fn refuse_part(alloc: Global, network: &Network, part: PartNo) -> Ending
+    requires { part.0 < length (parts_of network.now.wires) }
+    ensures { RefusesWith (not_accepted (part_name network.now part.0)) result }
+{
+    match part_name(alloc, network, part) {
+        Ok(name) => refuse(alloc, 6, b"not accepted: ", &name),
+        Err(_) => Ending::OutOfMemory,
     }
 }
 

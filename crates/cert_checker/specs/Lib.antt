@@ -1,1 +1,5 @@
+pub mod PartNames
+pub mod CertificateText
+pub mod CertificateReading
+pub mod CertificatePrinting
 pub mod Claims

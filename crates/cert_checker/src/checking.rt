@@ -7,8 +7,9 @@ ghost use Rattle.cert_rules.specs.Acceptance.{AreAllowed, first_failing, first_r
 ghost use Rattle.cert_rules.specs.Certificates.{entry_of};
 ghost use Rattle.cert_rules.specs.Rules.{rule_of};
 
+use crate::parts::part_at;
 use cert_rules::{allowed, rule};
-use net_model::{Item, Network, Part, PartNo, Role};
+use net_model::{Item, Network, PartNo, Role};
 use part_rules::Bounds;
 
 /// The first part that a certificate with an entry for each part fails: the first whose entry isn't allowed;
@@ -99,17 +100,8 @@ fn start_of_part(net: &Network, part: PartNo) -> Option<i64>
     ensures { let p = part_at net.now part.0 in
         result ≡ start_of (wire_at net.now.wires p.wire.0).item p.role }
 {
-    let part = part_at(net, part);
+    let part = part_at(net, part.0 as usize);
     start_of(net.wires()[part.wire.0 as usize].item, part.role)
-}
-
-/// The part of a number.
-fn part_at(net: &Network, part: PartNo) -> Part
-    requires { part.0 < length (parts_of net.now.wires) }
-    ensures part { result ≡ part_at net.now part.0 }
-    ensures wire { result.wire.0 < length net.now.wires }
-{
-    net.parts()[part.0 as usize]
 }
 
 /// The value from which a part of an item starts: what a block keeps starts from 0.

@@ -16,19 +16,22 @@ pub struct BadBounds {
     pub at: u32,
 }
 
-/// Bounds of each part of a network, in the order of its parts, seen as their list.
+/// Bounds of each part of a network, in the order of its parts, seen as their list. Each of them is proper.
 #[derive(Drop)]
 pub struct Certificate {
     bounds: Vec<Bounds>,
 }
 
 impl Model for Certificate {
-    ghost use Rattle.std.specs.Prelude.{List};
+    ghost use Rattle.std.specs.Prelude.{◌≡◌, List, None};
     ghost use Rattle.part_rules.specs.declared.bounds.Bounds.{Bounds};
+    ghost use Rattle.cert_rules.specs.Proper.{first_improper};
 
     ghost Value = { List Bounds };
 
     ghost view = { λ c. c.bounds.items };
+
+    ghost invariant = { λ c. first_improper c.bounds.items ≡ None };
 }
 
 impl Certificate {
@@ -45,9 +48,10 @@ impl Certificate {
         }
     }
 
-    /// The entries, in the order of the network's parts.
+    /// The entries, in the order of the network's parts. Each is proper.
     pub fn bounds(&self) -> &[Bounds]
-        ensures { result.now ≡ self.now }
+        ensures entries { result.now ≡ self.now }
+        ensures proper { first_improper self.now ≡ None }
     {
         self.bounds.as_slice()
     }
