@@ -1,5 +1,5 @@
 mod Examples
 mod GreatestSteps
 mod MapFaults
-mod SurfacePoints
+pub mod SurfacePoints
 mod WeightedValues
