@@ -12,3 +12,4 @@ pub mod LookUpHulls
 pub mod LeastGaps
 pub mod SlopeWords
 pub mod Examples
+pub mod MapExamples
