@@ -13,3 +13,5 @@ pub mod LeastGaps
 pub mod SlopeWords
 pub mod Examples
 pub mod MapExamples
+pub mod CurvePlaces
+pub mod SurfaceLines
