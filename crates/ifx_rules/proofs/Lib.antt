@@ -5,6 +5,7 @@ pub mod LookUpLines
 pub mod LineErrors
 pub mod LineRanges
 pub mod LineRules
+pub mod Steepest
 pub mod LookUps
 pub mod KeptRules
 pub mod Bends
