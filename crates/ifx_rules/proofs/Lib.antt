@@ -16,3 +16,7 @@ pub mod Examples
 pub mod MapExamples
 pub mod CurvePlaces
 pub mod SurfaceLines
+pub mod PartLines
+pub mod TwoHulls
+pub mod TwoWayRules
+pub mod MapLines

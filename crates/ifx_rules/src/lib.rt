@@ -10,5 +10,7 @@ mod look_up_ranges;
 mod narrowing;
 
 pub use gaps::least_gap;
-pub use laws::{law_of_curves, law_of_curves_over_axes, law_of_positions};
+pub use laws::{
+    law_of_curves, law_of_curves_over_axes, law_of_maps, law_of_maps_over_axes, law_of_positions,
+};
 pub use narrowing::{curve_bounds, curve_over_bounds, position_bounds};
