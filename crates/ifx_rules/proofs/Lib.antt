@@ -20,3 +20,4 @@ pub mod PartLines
 pub mod TwoHulls
 pub mod TwoWayRules
 pub mod MapLines
+pub mod MapHulls

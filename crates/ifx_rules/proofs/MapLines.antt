@@ -62,23 +62,23 @@ pub map_two_way : {Dx Gx Dy Gy : ℕ} (m : MapData) (way_x way_y : Fraction → 
     IsTwoWay Dx Gx Dy Gy (λ x y. surface m (way_x x) (way_y y)) points_x points_y
 map_two_way {Dx} {Gx} {Dy} {Gy} m way_x way_y points_x points_y some_x some_y wx wy steps_x steps_y = record {
   along_x = λ y.
-    let q = place_of m.ny (way_y y) some_y in
-    record {
-      parts = q.span;
-      some = q.some;
-      all = λ x. curve (columns_at m q) (way_x x);
-      line = wx.lines (Dx * q.span) (columns_at m q) (length-map-range_with_len (in_column m q) 0 m.nx) (λ i l. columns_gentle m q i Dx Gx (gap_at points_x i) l (λ iy h. steps_x i iy l h));
-      same = λ x. surface_along_x m (way_y y) q (way_x x) some_x;
-    };
+      let q = place_of m.ny (way_y y) some_y in
+      record {
+        parts = q.span;
+        some = q.some;
+        all = λ x. curve (columns_at m q) (way_x x);
+        line = wx.lines (Dx * q.span) (columns_at m q) (length-map-range_with_len (in_column m q) 0 m.nx) (λ i l. columns_gentle m q i Dx Gx (gap_at points_x i) l (λ iy h. steps_x i iy l h));
+        same = λ x. surface_along_x m (way_y y) q (way_x x) some_x;
+      };
   along_y = λ x.
-    let p = place_of m.nx (way_x x) some_x in
-    record {
-      parts = p.span;
-      some = p.some;
-      all = λ y. curve (lines_at m p) (way_y y);
-      line = wy.lines (Dy * p.span) (lines_at m p) (length-map-range_with_len (in_line m p) 0 m.ny) (λ i l. lines_gentle m p i Dy Gy (gap_at points_y i) l (λ ix h. steps_y ix i h l));
-      same = λ y. surface_along_y m (way_x x) p (way_y y) some_y;
-    };
+      let p = place_of m.nx (way_x x) some_x in
+      record {
+        parts = p.span;
+        some = p.some;
+        all = λ y. curve (lines_at m p) (way_y y);
+        line = wy.lines (Dy * p.span) (lines_at m p) (length-map-range_with_len (in_line m p) 0 m.ny) (λ i l. lines_gentle m p i Dy Gy (gap_at points_y i) l (λ ix h. steps_y ix i h l));
+        same = λ y. surface_along_y m (way_x x) p (way_y y) some_y;
+      };
 }
 
 -- ---- the steps and slopes of its rule
