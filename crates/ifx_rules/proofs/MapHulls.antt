@@ -1,9 +1,9 @@
 -- The hull of a function of two numbers over two ranges, gathered column by column: those at the ends of the first range, then each that
 -- lies inside it. A column is the hull along y at one place along x.
-use Rattle.std.specs.Prelude.{◌≡◌, ℕ, ◌+◌, ◌<◌, ◌≤◌, ◌&&◌, if◌then◌else◌, List, [], ◌∷◌, ◌++◌, map, flat_map, fold, drop, length, ℤ, pos, int_le}
+use Rattle.std.specs.Prelude.{◌≡◌, ℕ, ◌+◌, ◌<◌, ◌≤◌, ◌&&◌, Bool, true, if◌then◌else◌, List, [], ◌∷◌, ◌++◌, map, flat_map, fold, drop, length, ℤ, pos, int_le}
 use Rattle.std.specs.Int.{int_min, int_max, w64}
-use Rattle.std.proofs.Common.{refl, sym, ap, ap₂, ◌∙◌, arith}
-use Rattle.std.proofs.lemmas.Int.{ints, clamps}
+use Rattle.std.proofs.Common.{FitsSigned, refl, sym, ap, ap₂, ◌∙◌, arith}
+use Rattle.std.proofs.lemmas.Int.{ints, clamps, to_z-of_z}
 use Rattle.std.proofs.lemmas.List.{at_drop_all}
 use Rattle.std.proofs.lemmas.List.Sums.{fold-append}
 use Rattle.fx_fraction.specs.Fraction.{Fraction, whole}
@@ -123,3 +123,15 @@ columns_more value points_x points_y x y i p range next h e lo hi s = record {
   low = one_more int_min (λ z. (column_at value points_y y z).lo) x points_x i range.lo next.lo p (column_at value points_y y p).lo h e (ap (λ z. (column_at value points_y y z).lo) e) lo ∙ s.low;
   high = one_more int_max (λ z. (column_at value points_y y z).hi) x points_x i range.hi next.hi p (column_at value points_y y p).hi h e (ap (λ z. (column_at value points_y y z).hi) e) hi ∙ s.high;
 }
+
+-- ---- a place that was passed
+
+-- the number that was passed is the place, which lies inside a range
+pub record IsThere (b : Bounds) (place passed : ℤ) : Type 0 where
+  pub is : word_of w64 passed ≡ place
+  pub inside : (int_le b.lo place && int_le place b.hi) ≡ true
+
+pub is_there : (b : Bounds) (place passed : ℤ) (t : Bool) → FitsSigned w64 passed → passed ≡ place → t ≡ (int_le b.lo (word_of w64 passed) && int_le (word_of w64 passed) b.hi) → t ≡ true → IsThere b place passed
+is_there b place passed t fits e test h =
+    let is : word_of w64 passed ≡ place = to_z-of_z w64 passed fits ∙ e in
+    record { is = is; inside = ap (λ p. int_le b.lo p && int_le p b.hi) (sym is) ∙ sym test ∙ h }
