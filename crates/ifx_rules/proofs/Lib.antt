@@ -5,6 +5,7 @@ pub mod LookUpLines
 pub mod LineErrors
 pub mod LineRanges
 pub mod LineRules
+pub mod Steepest
 pub mod LookUps
 pub mod KeptRules
 pub mod Bends
@@ -12,3 +13,11 @@ pub mod LookUpHulls
 pub mod LeastGaps
 pub mod SlopeWords
 pub mod Examples
+pub mod MapExamples
+pub mod CurvePlaces
+pub mod SurfaceLines
+pub mod PartLines
+pub mod TwoHulls
+pub mod TwoWayRules
+pub mod MapLines
+pub mod MapHulls

@@ -10,11 +10,10 @@ use Rattle.fx_fraction.proofs.Denominators.{is_over, is_whole, is_plus, is_dista
 use Rattle.fx_fraction.proofs.Order.{AtMost_trans, AtMost-plus, AtMost_of-Below}
 use Rattle.fx_fraction.proofs.Distances.{distance_triangle}
 use Rattle.fx_core.specs.declared.quotient.Mode.TheVariants.{Floor}
-use Rattle.fx_core.specs.Rounding.{least_quotient_above}
 use Rattle.fx_core.specs.Values.{rounded_fraction}
 use Rattle.fx_core.proofs.RoundingLaws.{least_quotient_above_bounds}
 use Rattle.fx_core.proofs.RoundedFractions.{moves_less_than_one}
-use Rattle.ifx_rules.specs.LookUpRules.{slope_error}
+use Rattle.ifx_rules.specs.LookUpRules.{slope_error, slope_move}
 use Rattle.ifx_rules.proofs.Slopes.{Near, near_out}
 
 -- a is within err / 65536 of b
@@ -24,7 +23,7 @@ pub record IsNear (a b : Fraction) (err : ℤ) : Type 0 where
 both_errors : (err fel : ℤ) → AtMost (plus (over err 65536) (over fel 65536)) (over (err +ℤ fel) 65536)
 both_errors err fel = AtMost-in (is_plus (is_over err 65536 (omega arith)) (is_over fel 65536 (omega arith))) (is_over (err +ℤ fel) 65536 (omega arith)) (int_le_refl _)
 
-near_trans : (a b c : Fraction) (err fel : ℤ) → IsNear a b err → IsNear b c fel → IsNear a c (err +ℤ fel)
+pub near_trans : (a b c : Fraction) (err fel : ℤ) → IsNear a b err → IsNear b c fel → IsNear a c (err +ℤ fel)
 near_trans a b c err fel p q = record {
   near = AtMost_trans (distance a c) (plus (distance a b) (distance b c)) (over (err +ℤ fel) 65536) (distance_triangle a b c)
       (AtMost_trans (plus (distance a b) (distance b c)) (plus (over err 65536) (over fel 65536)) (over (err +ℤ fel) 65536) (AtMost-plus (distance a b) (over err 65536) (distance b c) (over fel 65536) p.near q.near) (both_errors err fel));
@@ -34,7 +33,7 @@ one : AtMost (whole (pos 1)) (over (pos 65536) 65536)
 one = AtMost-in_cross (is_whole (pos 1) 1 (omega arith)) (is_over (pos 65536) 65536 (omega arith)) (omega (arith, ints))
 
 -- rounding downward moves by less than one count
-floor_near : (f e : Fraction) (err : ℤ) → IsNear f e err → IsNear (whole (rounded_fraction Floor f)) e (err +ℤ pos 65536)
+pub floor_near : (f e : Fraction) (err : ℤ) → IsNear f e err → IsNear (whole (rounded_fraction Floor f)) e (err +ℤ pos 65536)
 floor_near f e err p =
     let r = whole (rounded_fraction Floor f) in
     let moved : IsNear r f (pos 65536) = record { near = AtMost_trans (distance r f) (whole (pos 1)) (over (pos 65536) 65536) (AtMost_of-Below (distance r f) (whole (pos 1)) (moves_less_than_one Floor f)) one } in
@@ -62,7 +61,7 @@ slope_step a b D G d l err c p q h k m =
     int_le_of-mul _ _ (G * d) (mul-pos p q) (int_le_trans _ _ _ first (int_le_trans _ _ _ second third))
 
 -- what is as near as D / G times the way, is within the error times that
-pub slope_near : (D G : ℕ) (x y f h : Fraction) (err : ℤ) → 1 ≤ G → Near D G x y f h → IsNear x y err → IsNear f h (least_quotient_above (pos D *ℤ err) (pos G))
+pub slope_near : (D G : ℕ) (x y f h : Fraction) (err : ℤ) → 1 ≤ G → Near D G x y f h → IsNear x y err → IsNear f h (slope_move (pos D) (pos G) err)
 slope_near D G x y f h err some n p =
     let c = common_two x y in
     let k = common_two f h in

@@ -38,11 +38,12 @@ floor_same f g h = int_le_antisymm _ _ (floor_grows f g (AtMost_of-Same f g h)) 
 abbrev pub FloorInside : ℤ → ℤ → Fraction → Type 0
 FloorInside lo hi f = IsInside lo hi (rounded_fraction Floor f)
 
-floor_convex : (lo hi : ℤ) → IsConvex (FloorInside lo hi)
+pub floor_convex : (lo hi : ℤ) → IsConvex (FloorInside lo hi)
 floor_convex lo hi = record { between = λ f g h p q m n. record { low = int_le_trans _ _ _ m.low (floor_grows f g p); high = int_le_trans _ _ _ (floor_grows g h q) n.high } }
 
-inside_named : (lo hi : ℤ) (f g : Fraction) → Same f g → FloorInside lo hi f → FloorInside lo hi g
-inside_named lo hi f g e i = subst (IsInside lo hi) (floor_same f g e) i
+-- what holds of all between two of which it holds, holds of a fraction under each of its names
+pub named_of : (P : Fraction → Type 0) → IsConvex P → (f g : Fraction) → Same f g → P f → P g
+named_of P c f g e p = c.between f g f (AtMost_of-Same f g e) (AtMost_of-Same g f (sym e)) p p
 
 -- ---- each of a list lies in its hull
 
@@ -50,7 +51,7 @@ each_of : (P : ℤ → Type 0) (vs : List ℤ) → ((i : ℕ) → i < length vs 
 each_of P [] h = tt
 each_of P (v ∷ vs) h = (h 0 (omega arith), each_of P vs (λ i l. h (suc i) (omega arith)))
 
-each_in_hull : (vs : List ℤ) → Each (IsInside (least_among vs) (greatest_among vs)) vs
+pub each_in_hull : (vs : List ℤ) → Each (IsInside (least_among vs) (greatest_among vs)) vs
 each_in_hull vs = each_of (IsInside (least_among vs) (greatest_among vs)) vs (λ i h. record { low = least_among_below vs i h; high = greatest_among_above vs i h })
 
 pub each_turned : {X : Type 0} (P Q : X → Type 0) → ((x : X) → P x → Q x) → (xs : List X) → Each P xs → Each Q xs
@@ -61,7 +62,7 @@ each_both : {X : Type 0} (P Q R : X → Type 0) → ((x : X) → P x → Q x →
 each_both P Q R f [] d e = tt
 each_both P Q R f (x ∷ xs) d e = (f x d.0 e.0, each_both P Q R f xs d.1 e.1)
 
-each_unmapped : {X : Type 0} (P : ℤ → Type 0) (f : X → ℤ) (zs : List X) → Each P (map f zs) → Each (λ z. P (f z)) zs
+pub each_unmapped : {X : Type 0} (P : ℤ → Type 0) (f : X → ℤ) (zs : List X) → Each P (map f zs) → Each (λ z. P (f z)) zs
 each_unmapped P f [] e = tt
 each_unmapped P f (z ∷ zs) e = (e.0, each_unmapped P f zs e.1)
 
@@ -157,19 +158,23 @@ knots_have {D} {G} P value points b l named e =
     (l.first ∷ l.knots) (at_knots D G l.first l.knots l.gentle)
     (each_unmapped (WhereInside (λ z. P (value (whole z))) b) (λ k. k.place) (l.first ∷ l.knots) (subst (Each (WhereInside (λ z. P (value (whole z))) b)) (sym l.places) e)))
 
+-- what holds of the function at all corners of a range holds of it over the range
+pub line_inside : {D G : ℕ} (P : Fraction → Type 0) (value : Fraction → Fraction) (points : List ℤ) (b : Bounds) → IsConvex P → IsLine D G value points → (m : ℤ) → b.lo ≤ℤ m → m ≤ℤ b.hi → Each (λ z. P (value (whole z))) (corners_at b points) → P (value (whole m))
+line_inside {D} {G} P value points b convex l m h k corners =
+    let named : (f g : Fraction) → Same f g → P f → P g = named_of P convex in
+    let inner = each_inside (λ z. P (value (whole z))) b points corners.1.1 in
+    let all = knots_have P value points b l named inner in
+    let knots = l.first ∷ l.knots in
+    let low = named (value (whole b.lo)) (line knots (whole b.lo)) (l.same (whole b.lo)) corners.0 in
+    let high = named (value (whole b.hi)) (line knots (whole b.hi)) (l.same (whole b.hi)) corners.1.0 in
+    named (line knots (whole m)) (value (whole m)) (sym (l.same (whole m)))
+    (line_has D G P (whole b.lo) (whole b.hi) knots convex l.gentle (whole m) (order_whole _ _ h) (order_whole _ _ k) low high all)
+
 -- what the function gives over a range, rounded downward, lies in the hull
 pub line_in_hull : {D G : ℕ} (value : Fraction → Fraction) (points : List ℤ) (b : Bounds) (err : ℤ) → IsLine D G value points → (m : ℤ) → b.lo ≤ℤ m → m ≤ℤ b.hi → IsInside (hull_at value points b err).lo (hull_at value points b err).hi (rounded_down value m)
 line_in_hull {D} {G} value points b err l m h k =
     let vs = corner_values (λ z. rounded_down value (z 0)) (corners_at b points ∷ []) in
     let lo = least_among vs in
     let hi = greatest_among vs in
-    let P : Fraction → Type 0 = FloorInside lo hi in
     let corners = each_unmapped (IsInside lo hi) (rounded_down value) (corners_at b points) (subst (Each (IsInside lo hi)) (values_of_one (rounded_down value) (corners_at b points)) (each_in_hull vs)) in
-    let inner = each_inside (λ z. P (value (whole z))) b points corners.1.1 in
-    let named : (f g : Fraction) → Same f g → P f → P g = inside_named lo hi in
-    let all = knots_have P value points b l named inner in
-    let knots = l.first ∷ l.knots in
-    let low = named (value (whole b.lo)) (line knots (whole b.lo)) (l.same (whole b.lo)) corners.0 in
-    let high = named (value (whole b.hi)) (line knots (whole b.hi)) (l.same (whole b.hi)) corners.1.0 in
-    named (line knots (whole m)) (value (whole m)) (sym (l.same (whole m)))
-    (line_has D G P (whole b.lo) (whole b.hi) knots (floor_convex lo hi) l.gentle (whole m) (order_whole _ _ h) (order_whole _ _ k) low high all)
+    line_inside (FloorInside lo hi) value points b (floor_convex lo hi) l m h k corners

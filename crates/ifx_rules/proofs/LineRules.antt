@@ -10,7 +10,7 @@ use Rattle.part_rules.specs.PartRules.{KeepsRule, IsNarrower, LiesInside, bounds
 use Rattle.part_rules.specs.Ranges.{corners_at, corner_values}
 use Rattle.part_rules.proofs.RangesGrow.{AreNarrower, corners_inside, hull_inside, values_inside}
 use Rattle.part_rules.proofs.ErrorsGrow.{above_grows, products_grow}
-use Rattle.ifx_rules.specs.LookUpRules.{rounded_down, hull_at, slope_error}
+use Rattle.ifx_rules.specs.LookUpRules.{rounded_down, hull_at, slope_error, slope_move}
 use Rattle.ifx_rules.specs.KeptRules.{FitAll, one_read, rounds_down}
 use Rattle.ifx_rules.proofs.Slopes.{Near, near_in, near_out, line_near_any}
 use Rattle.ifx_rules.proofs.LineErrors.{slope_error_near}
@@ -34,10 +34,13 @@ line_within {D} {G} value points some l given m e w =
     let hull = line_in_hull value points (given 0) (slope_error (pos D) (pos G) (given 0).err) l m w.low w.high in
     record { low = hull.low; high = hull.high; near = (slope_error_near D G (whole m) e (value (whole m)) (value e) (given 0).err some (line_near_named value points l (whole m) e) (record { near = w.near })).near }
 
-error_grows : (D G : ℕ) (err fel : ℤ) → 1 ≤ G → pos 0 ≤ℤ err → err ≤ℤ fel → slope_error (pos D) (pos G) err ≤ℤ slope_error (pos D) (pos G) fel
-error_grows D G err fel some p h =
+pub move_grows : (D G : ℕ) (err fel : ℤ) → 1 ≤ G → pos 0 ≤ℤ err → err ≤ℤ fel → slope_move (pos D) (pos G) err ≤ℤ slope_move (pos D) (pos G) fel
+move_grows D G err fel some p h =
     let product : (pos D *ℤ err) ≤ℤ (pos D *ℤ fel) = products_grow _ _ _ _ (int_le-pos _ _ (omega arith)) p (int_le_refl _) h in
-    int_le-add _ _ _ _ (above_grows _ _ (pos G) (int_le-pos _ _ some) product) (int_le_refl (pos 65536))
+    above_grows _ _ (pos G) (int_le-pos _ _ some) product
+
+error_grows : (D G : ℕ) (err fel : ℤ) → 1 ≤ G → pos 0 ≤ℤ err → err ≤ℤ fel → slope_error (pos D) (pos G) err ≤ℤ slope_error (pos D) (pos G) fel
+error_grows D G err fel some p h = int_le-add _ _ _ _ (move_grows D G err fel some p h) (int_le_refl (pos 65536))
 
 line_grows : {D G : ℕ} (value : Fraction → Fraction) (points : List ℤ) → 1 ≤ G → IsLine D G value points → (narrow wide : ℕ → Bounds) → IsNarrower (narrow 0) (wide 0) → LiesInside (line_bounds D G value points narrow) (line_bounds D G value points wide)
 line_grows {D} {G} value points some l narrow wide n =

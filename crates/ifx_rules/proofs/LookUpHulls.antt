@@ -16,7 +16,7 @@ use Rattle.ifx_rules.specs.LookUpRules.{hull_at, rounded_down}
 use Rattle.ifx_rules.specs.declared.look_up_ends.Bend.{Bend}
 
 -- a number, and the values at the places inside a range, taken together
-abbrev gathered : (ℤ → ℤ → ℤ) → (ℤ → ℤ) → Bounds → ℤ → List ℤ → ℤ
+abbrev pub gathered : (ℤ → ℤ → ℤ) → (ℤ → ℤ) → Bounds → ℤ → List ℤ → ℤ
 gathered op value b from places = fold op from (map value (points_inside b places))
 
 -- with the places that are left a range is the hull
@@ -57,7 +57,7 @@ taken : (op : ℤ → ℤ → ℤ) (value : ℤ → ℤ) (p from : ℤ) (inside 
 taken op value p from inside true = refl
 taken op value p from inside false = refl
 
-one_more : (op : ℤ → ℤ → ℤ) (value : ℤ → ℤ) (b : Bounds) (places : List ℤ) (i : ℕ) (from next p v : ℤ) → i < length places → p ≡ point_at places i → v ≡ value (point_at places i) → next ≡ (if int_le b.lo p && int_le p b.hi then op from v else from) → gathered op value b next (drop (i + 1) places) ≡ gathered op value b from (drop i places)
+pub one_more : (op : ℤ → ℤ → ℤ) (value : ℤ → ℤ) (b : Bounds) (places : List ℤ) (i : ℕ) (from next p v : ℤ) → i < length places → p ≡ point_at places i → v ≡ value (point_at places i) → next ≡ (if int_le b.lo p && int_le p b.hi then op from v else from) → gathered op value b next (drop (i + 1) places) ≡ gathered op value b from (drop i places)
 one_more op value b places i from next p v h e f is =
     let here = point_at places i in
     let left = drop (i + 1) places in

@@ -1,19 +1,19 @@
 -- The look-ups as broken lines with the slopes of their rules.
-use Rattle.std.specs.Prelude.{◌≡◌, ℕ, zero, suc, ◌+◌, ◌*◌, ◌-◌, ◌<◌, ◌≤◌, Bool, true, false, nat_lt, min, max, List, [], ◌∷◌, length, map, ℤ, pos, ◌+ℤ◌, ◌-ℤ◌, ◌<ℤ◌, unsigned_abs}
+use Rattle.std.specs.Prelude.{◌≡◌, ℕ, zero, suc, ◌+◌, ◌*◌, ◌-◌, ◌<◌, ◌≤◌, min, max, List, [], ◌∷◌, length, map, ℤ, pos, ◌+ℤ◌, ◌-ℤ◌, ◌<ℤ◌, unsigned_abs}
 use Rattle.std.specs.List.{range_with_len}
-use Rattle.std.proofs.Common.{refl, sym, ap, ◌∙◌, subst, arith, mul-le-mul, le_refl, eq-or-lt_of_le, le_of_mul-le-mul_right, inl, inr, ◌⊎◌, if◌then◌else◌}
+use Rattle.std.proofs.Common.{refl, sym, ap, ◌∙◌, subst, arith, mul-le-mul, le_refl, eq-or-lt_of_le, inl, inr, ◌⊎◌}
 use Rattle.std.proofs.lemmas.Int.{ints}
-use Rattle.std.proofs.lemmas.Bool.Decides.{nat_tests}
 use Rattle.ifx_search.specs.Axes.{point_at}
 use Rattle.ifx_search.specs.Positions.{position}
 use Rattle.ifx_curves.specs.Curves.{curve}
-use Rattle.ifx_curves.specs.declared.slopes.Slope.{Slope}
-use Rattle.ifx_curves.specs.Slopes.{step_at, greatest_of_steps, step_of, slope_at, steeper, steepest_of, slope_of}
+use Rattle.ifx_curves.specs.Slopes.{step_at, greatest_of_steps, step_of, slope_at, steeper, steepest_of as curve_steepest_of, slope_of}
+use Rattle.ifx_maps.specs.Slopes.{greatest_of, steepest_of}
 use Rattle.ifx_rules.specs.LookUpRules.{gap_at, least_of_gaps, gap_of, whole_positions, curve_over}
 use Rattle.ifx_rules.specs.KeptRules.{AreAxis}
 use Rattle.ifx_rules.proofs.Slopes.{AreGentle}
 use Rattle.ifx_rules.proofs.LookUpLines.{position_knots, curve_knots, pair_knots, DoRise, next_up, position_line, curve_line, pair_line}
 use Rattle.ifx_rules.proofs.LineRanges.{IsLine}
+use Rattle.ifx_rules.proofs.Steepest.{greatest_above, steepest, steepest_some}
 
 -- ---- positions: 65536 a gap
 
@@ -68,14 +68,13 @@ some_gap_of points a = gap_some points (length points - 2) (λ i l. some_gap (po
 
 -- ---- curves: the greatest step each 65536
 
-above_by : (values : List ℤ) (n i : ℕ) → (i < n → step_at values i ≤ greatest_of_steps values n) → (suc i ≡ suc n) ⊎ (suc i < suc n) → step_at values i ≤ max (greatest_of_steps values n) (step_at values n)
-above_by values n i r (inl e) = subst (λ k. step_at values k ≤ max (greatest_of_steps values n) (step_at values n)) {x = n} {y = i} (omega (arith, e)) (omega arith)
-above_by values n i r (inr l) = omega (arith, r (omega arith))
+greatest_same : (values : List ℤ) (n : ℕ) → greatest_of (step_at values) n ≡ greatest_of_steps values n
+unfolding greatest_of greatest_of_steps
+greatest_same values zero = refl
+greatest_same values (suc n) = ap (λ g. max g (step_at values n)) (greatest_same values n)
 
 step_above : (values : List ℤ) (n i : ℕ) → i < n → step_at values i ≤ greatest_of_steps values n
-unfolding greatest_of_steps
-step_above values zero i h = absurd (omega arith)
-step_above values (suc n) i h = above_by values n i (step_above values n i) (eq-or-lt_of_le h)
+step_above values n i h = subst (λ g. step_at values i ≤ g) (greatest_same values n) (greatest_above (step_at values) n i h)
 
 gentle_curve : (D : ℕ) (z : ℤ) (values : List ℤ) → ((i : ℕ) → suc i < length values → step_at values i ≤ D) → AreGentle D 65536 (curve_knots z values)
 gentle_curve D z [] g = tt
@@ -89,74 +88,30 @@ curve_places : (k : ℕ) (values : List ℤ) → map (λ k. k.place) (curve_knot
 curve_places k [] = refl
 curve_places k (v ∷ values) = ap (λ ps. pos (65536 * k) ∷ ps) (ap (λ z. map (λ k. k.place) (curve_knots z values)) (ap pos (omega arith)) ∙ curve_places (k + 1) values)
 
-pub curve_is_line : (values : List ℤ) → 2 ≤ length values → IsLine (step_of values) 65536 (curve values) (whole_positions (length values))
-curve_is_line [] a = absurd (omega (arith, a))
-curve_is_line (v ∷ values) a = record {
+-- a curve is a line, no steeper than any step that is at least each of its own
+pub curve_line_by : (D : ℕ) (values : List ℤ) → 2 ≤ length values → ((i : ℕ) → suc i < length values → step_at values i ≤ D) → IsLine D 65536 (curve values) (whole_positions (length values))
+curve_line_by D [] a g = absurd (omega (arith, a))
+curve_line_by D (v ∷ values) a g = record {
   first = record { place = pos 0; height = v };
   knots = curve_knots (pos 65536) values;
   places = curve_places 0 (v ∷ values);
-  gentle = gentle_curve (step_of (v ∷ values)) (pos 0) (v ∷ values) (λ i l. step_above (v ∷ values) (length (v ∷ values) - 1) i (omega arith));
+  gentle = gentle_curve D (pos 0) (v ∷ values) g;
   same = curve_line v values;
 }
 
+pub curve_is_line : (values : List ℤ) → 2 ≤ length values → IsLine (step_of values) 65536 (curve values) (whole_positions (length values))
+curve_is_line values a = curve_line_by (step_of values) values a (λ i l. step_above values (length values - 1) i (omega arith))
+
 pub curve_line_knots : (v : ℤ) (values : List ℤ) (some : 2 ≤ length (v ∷ values)) → (curve_is_line (v ∷ values) some).first ∷ (curve_is_line (v ∷ values) some).knots ≡ curve_knots (pos 0) (v ∷ values)
-unfolding curve_is_line
+unfolding curve_is_line curve_line_by
 curve_line_knots v values some = refl
 
 -- ---- curves over an axis: the steepest slope
 
--- a slope is at least as steep as segment i
-IsSteeper : List ℤ → List ℤ → Slope → ℕ → Type 0
-IsSteeper points values s i = step_at values i * s.run ≤ s.rise * gap_at points i
-
-test_true : (m n : ℕ) → nat_lt m n ≡ true → m < n
-test_true m n e = grind (arith, nat_tests)
-
-test_false : (m n : ℕ) → nat_lt m n ≡ false → n ≤ m
-test_false m n e = grind (arith, nat_tests)
-
-steeper_step : (s g ar an br bn : ℕ) → 1 ≤ an → s * an ≤ ar * g → ar * bn ≤ br * an → s * bn ≤ br * g
-steeper_step s g ar an br bn one h k = le_of_mul-le-mul_right (omega (arith, mul-le-mul h (le_refl bn), mul-le-mul k (le_refl g))) one
-
-steeper_keeps : (points values : List ℤ) (a b : Slope) (i : ℕ) (t : Bool) → nat_lt (a.rise * b.run) (b.rise * a.run) ≡ t → 1 ≤ a.run → IsSteeper points values a i → IsSteeper points values (if t then b else a) i
-unfolding IsSteeper
-steeper_keeps points values a b i true e one h = steeper_step _ _ a.rise a.run b.rise b.run one h (omega (arith, test_true _ _ e))
-steeper_keeps points values a b i false e one h = h
-
-steeper_last : (points values : List ℤ) (a b : Slope) (i : ℕ) (t : Bool) → nat_lt (a.rise * b.run) (b.rise * a.run) ≡ t → 1 ≤ b.run → IsSteeper points values b i → IsSteeper points values (if t then b else a) i
-unfolding IsSteeper
-steeper_last points values a b i true e one h = h
-steeper_last points values a b i false e one h = steeper_step _ _ b.rise b.run a.rise a.run one h (omega (arith, test_false _ _ e))
-
-either_some : (a b : Slope) (t : Bool) → 1 ≤ a.run → 1 ≤ b.run → 1 ≤ (if t then b else a).run
-either_some a b true p q = q
-either_some a b false p q = p
-
-steepest_some : (points values : List ℤ) (n : ℕ) → ((i : ℕ) → i ≤ n → 1 ≤ gap_at points i) → 1 ≤ (steepest_of points values n).run
-unfolding steepest_of
-steepest_some points values zero h = h 0 (omega arith)
-steepest_some points values (suc n) h = either_some (steepest_of points values n) (slope_at points values (suc n)) _ (steepest_some points values n (λ i l. h i (omega arith))) (h (suc n) (omega arith))
-
-itself_steeper : (points values : List ℤ) (i : ℕ) → IsSteeper points values (slope_at points values i) i
-unfolding IsSteeper
-itself_steeper points values i = le_refl _
-
-steepest_by : (points values : List ℤ) (n i : ℕ) → ((i : ℕ) → i ≤ suc n → 1 ≤ gap_at points i) → (i ≤ n → IsSteeper points values (steepest_of points values n) i) → (i ≡ suc n) ⊎ (i < suc n) →
-    IsSteeper points values (steeper (steepest_of points values n) (slope_at points values (suc n))) i
-steepest_by points values n i g r (inl e) =
-    subst (IsSteeper points values (steeper (steepest_of points values n) (slope_at points values (suc n)))) (sym e)
-    (steeper_last points values (steepest_of points values n) (slope_at points values (suc n)) (suc n) _ refl (g (suc n) (omega arith)) (itself_steeper points values (suc n)))
-steepest_by points values n i g r (inr l) =
-    steeper_keeps points values (steepest_of points values n) (slope_at points values (suc n)) i _ refl (steepest_some points values n (λ k m. g k (omega arith))) (r (omega arith))
-
-steepest : (points values : List ℤ) (n i : ℕ) → ((i : ℕ) → i ≤ n → 1 ≤ gap_at points i) → i ≤ n → IsSteeper points values (steepest_of points values n) i
-unfolding steepest_of
-steepest points values zero i g h = subst (IsSteeper points values (slope_at points values 0)) {x = 0} {y = i} (omega arith) (itself_steeper points values 0)
-steepest points values (suc n) i g h = steepest_by points values n i g (steepest points values n i (λ k l. g k (omega arith))) (eq-or-lt_of_le h)
-
-slope_out : (points values : List ℤ) (s : Slope) (i : ℕ) → IsSteeper points values s i → step_at values i * s.run ≤ s.rise * gap_at points i
-unfolding IsSteeper
-slope_out points values s i h = h
+steepest_same : (points values : List ℤ) (n : ℕ) → steepest_of (slope_at points values) n ≡ curve_steepest_of points values n
+unfolding steepest_of curve_steepest_of
+steepest_same points values zero = refl
+steepest_same points values (suc n) = ap (λ s. steeper s (slope_at points values (suc n))) (steepest_same points values n)
 
 gentle_pairs : (D G : ℕ) (points values : List ℤ) → ((i : ℕ) → suc i < length points → point_at points i <ℤ point_at points (suc i)) → ((i : ℕ) → suc i < length points → step_at values i * G ≤ D * gap_at points i) → AreGentle D G (pair_knots points values)
 gentle_pairs D G [] values r g = tt
@@ -178,29 +133,36 @@ do_rise [] r = tt
 do_rise (p ∷ []) r = tt
 do_rise (p ∷ q ∷ points) r = (r 0 (omega arith), do_rise (q ∷ points) (λ i l. r (suc i) (omega arith)))
 
-gaps_some : (points : List ℤ) (n : ℕ) → AreAxis points → suc n < length points → (i : ℕ) → i ≤ n → 1 ≤ gap_at points i
-gaps_some points n a h i l = some_gap (point_at points i) (point_at points (suc i)) (a.rising i (omega arith))
+pub gaps_some : (points : List ℤ) → AreAxis points → (i : ℕ) → suc i < length points → 1 ≤ gap_at points i
+gaps_some points a i h = some_gap (point_at points i) (point_at points (suc i)) (a.rising i h)
 
 pub some_run : (points values : List ℤ) → AreAxis points → length points ≡ length values → 1 ≤ (slope_of points values).run
-some_run points values a e = steepest_some points values (length values - 2) (gaps_some points (length values - 2) a (omega (arith, a.some, e)))
+some_run points values a e =
+    let n = length values - 2 in
+    subst (λ s. 1 ≤ s.run) (steepest_same points values n) (steepest_some (slope_at points values) n (λ i l. gaps_some points a i (omega (arith, a.some, e))))
+
+slope_above : (points values : List ℤ) → AreAxis points → length points ≡ length values → (i : ℕ) → suc i < length points → step_at values i * (slope_of points values).run ≤ (slope_of points values).rise * gap_at points i
+slope_above points values a e i h =
+    let n = length values - 2 in
+    subst (λ s. step_at values i * s.run ≤ s.rise * gap_at points i) (steepest_same points values n)
+    (steepest (slope_at points values) n i (λ k l. gaps_some points a k (omega (arith, a.some, e))) (omega (arith, e, h))).steep
+
+-- a curve over an axis is a line, no steeper than any slope that is at least as steep as each of its own
+pub curve_over_line_by : (D G : ℕ) (points values : List ℤ) → AreAxis points → length points ≡ length values → ((i : ℕ) → suc i < length points → step_at values i * G ≤ D * gap_at points i) → IsLine D G (curve_over points values) points
+curve_over_line_by D G [] values a e g = absurd (omega (arith, a.some))
+curve_over_line_by D G (p ∷ points) [] a e g = absurd (omega (arith, e))
+curve_over_line_by D G (p ∷ points) (v ∷ values) a e g = record {
+  first = record { place = p; height = v };
+  knots = pair_knots points values;
+  places = pair_places (p ∷ points) (v ∷ values) e;
+  gentle = gentle_pairs D G (p ∷ points) (v ∷ values) a.rising g;
+  same = λ x. pair_line p v points values x (do_rise (p ∷ points) a.rising);
+}
 
 pub curve_over_is_line : (points values : List ℤ) → AreAxis points → length points ≡ length values → IsLine (slope_of points values).rise (slope_of points values).run (curve_over points values) points
-curve_over_is_line [] values a e = absurd (omega (arith, a.some))
-curve_over_is_line (p ∷ points) [] a e = absurd (omega (arith, e))
-curve_over_is_line (p ∷ points) (v ∷ values) a e =
-    let slope = slope_of (p ∷ points) (v ∷ values) in
-    let n = length (v ∷ values) - 2 in
-    let steep : (i : ℕ) → suc i < length (p ∷ points) → IsSteeper (p ∷ points) (v ∷ values) slope i =
-    λ i l. steepest (p ∷ points) (v ∷ values) n i (gaps_some (p ∷ points) n a (omega (arith, a.some, e))) (omega (arith, e)) in
-    record {
-      first = record { place = p; height = v };
-      knots = pair_knots points values;
-      places = pair_places (p ∷ points) (v ∷ values) e;
-      gentle = gentle_pairs slope.rise slope.run (p ∷ points) (v ∷ values) a.rising (λ i l. slope_out (p ∷ points) (v ∷ values) slope i (steep i l));
-      same = λ x. pair_line p v points values x (do_rise (p ∷ points) a.rising);
-    }
+curve_over_is_line points values a e = curve_over_line_by (slope_of points values).rise (slope_of points values).run points values a e (slope_above points values a e)
 
 pub curve_over_line_knots : (p v : ℤ) (points values : List ℤ) (a : AreAxis (p ∷ points)) (e : length (p ∷ points) ≡ length (v ∷ values)) →
     (curve_over_is_line (p ∷ points) (v ∷ values) a e).first ∷ (curve_over_is_line (p ∷ points) (v ∷ values) a e).knots ≡ pair_knots (p ∷ points) (v ∷ values)
-unfolding curve_over_is_line
+unfolding curve_over_is_line curve_over_line_by
 curve_over_line_knots p v points values a e = refl

@@ -1,2 +1,3 @@
 pub mod LookUpRules
+pub mod MapRules
 pub mod KeptRules

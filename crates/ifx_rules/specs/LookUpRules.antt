@@ -26,9 +26,13 @@ hull_at value points b err = hull_of (corner_values (λ m. rounded_down value (m
 
 -- ---- errors
 
--- the error of what is nowhere steeper than rise / run: the argument's error times that, rounded up, and one rounding
+-- how far what is nowhere steeper than rise / run moves at most: the argument's error times that, rounded up
+abbrev pub slope_move : ℤ → ℤ → ℤ → ℤ
+slope_move rise run err = least_quotient_above (rise *ℤ err) run
+
+-- its error: that, and one rounding
 abbrev pub slope_error : ℤ → ℤ → ℤ → ℤ
-slope_error rise run err = least_quotient_above (rise *ℤ err) run +ℤ one_count
+slope_error rise run err = slope_move rise run err +ℤ one_count
 
 -- the distance from point i to the next
 abbrev pub gap_at : List ℤ → ℕ → ℕ

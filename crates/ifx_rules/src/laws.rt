@@ -1,4 +1,4 @@
-ghost use Rattle.ifx_rules.specs.KeptRules.{CurvesKeepRules, CurvesOverKeepRules, PositionsKeepRules};
+ghost use Rattle.ifx_rules.specs.KeptRules.{CurvesKeepRules, CurvesOverKeepRules, MapsKeepRules, MapsOverKeepRules, PositionsKeepRules};
 
 /// Does nothing: its clause is that positions on an axis keep their rule, which is sound and monotone.
 /// The range takes all points inside the argument's range as corners beside its ends, and the error is
@@ -17,4 +17,16 @@ pub fn law_of_curves()
 /// slope, since the position between the two isn't rounded.
 pub fn law_of_curves_over_axes()
     ensures { CurvesOverKeepRules }
+{}
+
+/// Does nothing: its clause is that maps keep their rule. The range takes the corners of both positions'
+/// ranges together, and the error rests on the greatest step in each direction.
+pub fn law_of_maps()
+    ensures { MapsKeepRules }
+{}
+
+/// Does nothing: its clause is that maps over two axes keep their rule. The error rests on the steepest
+/// slope in each direction, since the positions between aren't rounded.
+pub fn law_of_maps_over_axes()
+    ensures { MapsOverKeepRules }
 {}

@@ -1,12 +1,11 @@
 // The errors of look-ups, in units of 1/65536 of a raw count. The error of what is read has at most 40
 // bits, and no number here more than 103.
 
-ghost use Rattle.std.specs.Prelude.{◌≡◌, ◌^◌, ◌≤ℤ◌, ◌<ℤ◌, ◌+ℤ◌, ◌*ℤ◌, length, pos};
+ghost use Rattle.std.specs.Prelude.{◌≡◌, ◌<◌, ◌^◌, ◌≤ℤ◌, ◌<ℤ◌, ◌*ℤ◌, length, pos, unsigned_abs};
 ghost use Rattle.fx_core.specs.Rounding.{least_quotient_above};
 ghost use Rattle.part_rules.specs.Entries.{IsSmall};
-ghost use Rattle.part_rules.specs.Units.{one_count};
 ghost use Rattle.ifx_curves.specs.Slopes.{slope_of, step_of};
-ghost use Rattle.ifx_rules.specs.LookUpRules.{gap_of, slope_error};
+ghost use Rattle.ifx_rules.specs.LookUpRules.{gap_of, slope_error, slope_move};
 
 use crate::gaps::least_gap;
 use fx_core::ceil_div;
@@ -15,17 +14,17 @@ use ifx_search::Axis;
 use part_rules::Bounds;
 
 /// How far the positions of neighbouring points are apart.
-const SEGMENT: i64 = 65536;
+pub(crate) const SEGMENT: i64 = 65536;
 
 /// What rounding downward may move a value by, one raw count, in the units of errors.
-const ONE_COUNT: i128 = 65536;
+pub(crate) const ONE_COUNT: i128 = 65536;
 
 /// How steep a look-up is at most: its value moves by no more than `rise` where what it reads moves
 /// by `run`, both in raw counts.
 #[derive(Clone, Copy)]
-struct Steepness {
-    rise: i64,
-    run: i64,
+pub(crate) struct Steepness {
+    pub(crate) rise: i64,
+    pub(crate) run: i64,
 }
 
 /// The error of a position.
@@ -81,8 +80,20 @@ fn slope_error(steepest: Steepness, x: Bounds) -> i128
     requires small { IsSmall x }
     ensures { result ≡ slope_error steepest.rise steepest.run x.err }
 {
+    slope_move(steepest, x) + ONE_COUNT
+}
+
+/// How far a value moves at most that is nowhere steeper than this, where what is read is off by its
+/// error.
+pub(crate) fn slope_move(steepest: Steepness, x: Bounds) -> i128
+    requires rise { pos 0 ≤ℤ steepest.rise }
+    requires run { pos 1 ≤ℤ steepest.run }
+    requires small { IsSmall x }
+    ensures value { result ≡ slope_move steepest.rise steepest.run x.err }
+    ensures size { unsigned_abs result < 2 ^ 103 }
+{
     let raised = product(i128::from(steepest.rise), i128::from(x.err));
-    rounded_error(raised, i128::from(steepest.run))
+    quotient_above(raised, i128::from(steepest.run))
 }
 
 // The product of a number of at most 63 bits and an error.
@@ -98,12 +109,13 @@ fn product(rise: i128, err: i128) -> i128
     rise * err
 }
 
-// The error of what is divided and rounded downward.
-fn rounded_error(err: i128, run: i128) -> i128
-    requires low { pos 0 ≤ℤ err }
-    requires high { err <ℤ pos (2 ^ 103) }
+// The least whole number that isn't below `raised / run`.
+fn quotient_above(raised: i128, run: i128) -> i128
+    requires low { pos 0 ≤ℤ raised }
+    requires high { raised <ℤ pos (2 ^ 103) }
     requires run { pos 1 ≤ℤ run }
-    ensures { result ≡ least_quotient_above err run +ℤ one_count }
+    ensures value { result ≡ least_quotient_above raised run }
+    ensures size { unsigned_abs result < 2 ^ 103 }
 {
-    ceil_div(err, run) + ONE_COUNT
+    ceil_div(raised, run)
 }

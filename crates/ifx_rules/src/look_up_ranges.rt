@@ -65,8 +65,8 @@ pub(crate) fn curve_over_range(axis: &Axis, table: &Table, x: Bounds) -> Range
     range
 }
 
-// The hull of two numbers.
-fn hull(first: Whole, second: Whole) -> Range
+/// The hull of two numbers.
+pub(crate) fn hull(first: Whole, second: Whole) -> Range
     ensures lo { result.lo ≡ int_min first.number second.number }
     ensures hi { result.hi ≡ int_max first.number second.number }
 {
@@ -78,16 +78,16 @@ fn joined_inside(range: Range, x: Bounds, bend: Bend) -> Range
     ensures lo { result.lo ≡ (if int_le x.lo bend.place && int_le bend.place x.hi then int_min range.lo bend.value else range.lo) }
     ensures hi { result.hi ≡ (if int_le x.lo bend.place && int_le bend.place x.hi then int_max range.hi bend.value else range.hi) }
 {
-    if is_inside(x, bend) {
+    if is_inside(x, bend.place) {
         range.joined(Range::at(Whole::of_count(bend.value)))
     } else {
         range
     }
 }
 
-// Whether a bend lies inside the range of what is read.
-fn is_inside(x: Bounds, bend: Bend) -> bool
-    ensures { result ≡ (int_le x.lo bend.place && int_le bend.place x.hi) }
+/// Whether a place lies inside the range of what is read.
+pub(crate) fn is_inside(x: Bounds, place: i64) -> bool
+    ensures { result ≡ (int_le x.lo place && int_le place x.hi) }
 {
-    x.lo <= bend.place && bend.place <= x.hi
+    x.lo <= place && place <= x.hi
 }
